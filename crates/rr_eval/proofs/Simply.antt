@@ -1,35 +1,43 @@
 -- Parts that are evaluated without a frame, by what stands in the program.
-use Rattle.std.proofs.Common.{◌≡◌, ℕ, suc, ◌+◌, ap, ◌∙◌, arith, refl, sym, subst, ℤ, Some, inl, inr, List, [], ◌∷◌, ◌++◌, length, slice_get, false}
+use Rattle.std.proofs.Common.{◌≡◌, ℕ, suc, ◌+◌, ap, ◌∙◌, arith, refl, sym, subst, ℤ, Some, inl, inr, List, [], ◌∷◌, ◌++◌, length, slice_get, false, Bool, true, Option, None, IfSome}
 use Rattle.std.proofs.lemmas.Option.{slice_get_within}
 use Rattle.rr_parser.specs.Grammar.Names.{is_splat}
 use Rattle.rr_space.proofs.Hands.{append_cases}
 use Rattle.rr_space.specs.Tables.{Table}
 use Rattle.rr_space.specs.declared.refer.Ref.{Ref}
-use Rattle.rr_space.specs.declared.refer.Ref.TheVariants.{Int as IntRef}
-use Rattle.rr_tree.specs.Tree.{Tree, int, local, binary, splat, tree_at}
+use Rattle.rr_space.specs.declared.refer.Ref.TheVariants.{Int as IntRef, Class}
+use Rattle.rr_tree.specs.Tree.{Tree, nil, truth, int, symbol, itself, class_named, constant, local, binary, splat, tree_at}
 use Rattle.rr_tree.specs.declared.node.BinaryOperator.{BinaryOperator}
 use Rattle.rr_tree.specs.declared.node.Node.{Node}
 use Rattle.rr_tree.specs.declared.program.Program.{Program}
 use Rattle.rr_eval.specs.declared.call_stack.Variable.{Variable as Named}
 use Rattle.rr_eval.specs.declared.problem.Answer.TheVariants.{Gave}
 use Rattle.rr_eval.specs.declared.simple_parts.SimplePart.{SimplePart}
-use Rattle.rr_eval.specs.declared.simple_parts.SimplePart.TheVariants.{Variable, Int, WithInt, WithVariable, Other}
+use Rattle.rr_eval.specs.declared.simple_parts.SimplePart.TheVariants.{Variable, Int, WithInt, WithVariable, Value, Itself, Reading, Other}
 use Rattle.rr_frames.specs.Frames.{Frame as Activated}
 use Rattle.rr_eval.specs.Context.{Context}
 use Rattle.rr_eval.specs.Frames.{means, runs_in}
-use Rattle.rr_eval.specs.Rules.{on_value, with_value, operation}
+use Rattle.rr_eval.specs.Rules.{on_value, with_value, operation, rule}
+use Rattle.rr_eval.specs.Constants.{own_class, plain_constant}
+use Rattle.rr_eval.specs.Blocks.{running}
+use Rattle.rr_eval.specs.Within.{Reach, IsReached}
+use Rattle.rr_base.specs.declared.name.ClassId.{ClassId}
+use Rattle.rr_base.specs.declared.name.Sym.{Sym}
+use Rattle.rr_space.specs.Parts.{truth_ref}
+use Rattle.rr_tree.specs.declared.node.Path.TheVariants.{Plain}
+use Rattle.std.specs.Option.{option_map}
 use Rattle.rr_eval.specs.Script.{Ret, after}
-use Rattle.rr_eval.specs.SimpleParts.{AreSimple, IsSimple, operand_of, operation_of, simple_of}
-use Rattle.rr_eval.specs.Turns.{code_of, state_of, leaf_value}
+use Rattle.rr_eval.specs.SimpleParts.{AreSimple, IsSimple, literal_of, operand_of, operation_of, simple_of}
+use Rattle.rr_eval.specs.Turns.{code_of, context_of, state_of, leaf_value}
 use Rattle.rr_eval.specs.Usual.{TakesNow}
 use Rattle.rr_eval.specs.Variables.{read_variable}
 use Rattle.rr_eval.specs.View.{View}
 use Rattle.rr_eval.proofs.Depth.{meaning_rule}
-use Rattle.rr_eval.proofs.Quickly.{leaf_takes}
+use Rattle.rr_eval.proofs.Quickly.{answers, leaf_takes}
 
 -- one part more
-pub simple_more : (ns : List Node) (parts : List SimplePart) (s : SimplePart) (n : ℕ) → length parts ≡ n → AreSimple ns parts → IsSimple (tree_at ns n) s → AreSimple ns (parts ++ s ∷ [])
-simple_more ns parts s n at are is = λ x f e.
+pub simple_more : (p : Program) (parts : List SimplePart) (s : SimplePart) (n : ℕ) → length parts ≡ n → AreSimple p parts → IsSimple p (tree_at p.nodes.items n) s → AreSimple p (parts ++ s ∷ [])
+simple_more p parts s n at are is = λ x f e.
     elim (append_cases parts (s ∷ []) x f e) [
       | inl l ↦ are x f l
       | inr r ↦
@@ -38,7 +46,7 @@ simple_more ns parts s n at are is = λ x f e.
           let first = subst (λ j. slice_get (s ∷ []) j ≡ Some f) none r.2 in
           let same : s ≡ f = cc first in
           let there : n ≡ x = omega (arith, at, r.1, none) in
-          subst (IsSimple (tree_at ns x)) same (subst (λ k. IsSimple (tree_at ns k) s) there is)
+          subst (IsSimple p (tree_at p.nodes.items x)) same (subst (λ k. IsSimple p (tree_at p.nodes.items k) s) there is)
     ]
 
 abbrev named : ℕ → ℕ → Named
@@ -127,3 +135,78 @@ with_variable_takes p m t _ op v w r e is = absurd (cc e)
 pub simple_plain : (tree : Tree) (s : SimplePart) → s ≡ simple_of tree → (s ≡ Other → ⊥) → is_splat tree ≡ false
 simple_plain (splat t) s e h = absurd (h e)
 simple_plain _ s e h = refl
+
+-- what a part is as far as integers and variables go, that it is
+operation_value : (o : BinaryOperator) (s t : SimplePart) (v : Ref) → operation_of o s t ≡ Value v → ⊥
+operation_value o (Variable w) (Int y) v e = cc e
+operation_value o (Variable w) (Variable y) v e = cc e
+operation_value o (Variable w) _ v e = cc e
+operation_value o _ _ v e = cc e
+
+operation_itself : (o : BinaryOperator) (s t : SimplePart) → operation_of o s t ≡ Itself → ⊥
+operation_itself o (Variable w) (Int y) e = cc e
+operation_itself o (Variable w) (Variable y) e = cc e
+operation_itself o (Variable w) _ e = cc e
+operation_itself o _ _ e = cc e
+
+no_value : (tree : Tree) (v : Ref) → simple_of tree ≡ Value v → ⊥
+no_value (binary o a b) v e = operation_value o (operand_of a) (operand_of b) v e
+no_value (int z) v e = cc e
+no_value (local depth slot x behind) v e = cc e
+no_value _ v e = cc e
+
+no_itself : (tree : Tree) → simple_of tree ≡ Itself → ⊥
+no_itself (binary o a b) e = operation_itself o (operand_of a) (operand_of b) e
+no_itself (int z) e = cc e
+no_itself (local depth slot x behind) e = cc e
+no_itself _ e = cc e
+
+pub simple_is : (p : Program) (tree : Tree) (s : SimplePart) → s ≡ simple_of tree → IsSimple p tree s
+simple_is p tree (Value v) e = absurd (no_value tree v (sym e))
+simple_is p tree Itself e = absurd (no_itself tree (sym e))
+simple_is p tree Reading e = tt
+simple_is p tree (Variable v) e = e
+simple_is p tree (Int z) e = e
+simple_is p tree (WithInt op v z) e = e
+simple_is p tree (WithVariable op v w) e = e
+simple_is p tree Other e = e
+
+-- a literal's rule is its value
+class_rule : (p : Program) (x : Sym) (o : Option ClassId) (v : Ref) → option_map Class o ≡ Some v → plain_constant (context_of p) o x ≡ Ret (Gave v)
+class_rule p x (Some k) v e = ap (λ r. Ret (Gave r)) (cc e)
+class_rule p x None v e = absurd (cc e)
+
+literal_rule : (p : Program) (tree : Tree) (v : Ref) → literal_of p tree ≡ Some v → rule (context_of p) tree ≡ Ret (Gave v)
+literal_rule p nil v e = ap (λ r. Ret (Gave r)) (cc e)
+literal_rule p (truth b) v e = ap (λ r. Ret (Gave r)) (cc e)
+literal_rule p (symbol x) v e = ap (λ r. Ret (Gave r)) (cc e)
+literal_rule p (class_named k) v e = ap (λ r. Ret (Gave r)) (cc e)
+literal_rule p (constant (Plain x)) v e = class_rule p x (own_class p x.0) v e
+literal_rule p _ v e = absurd (cc e)
+
+pub literal_takes : (p : Program) (m : View) (t : Table) (tree : Tree) (v : Ref) → literal_of p tree ≡ Some v → TakesNow p m t tree 1 v
+literal_takes p m t tree v e = λ h. answers (code_of p h.world) tree tree (state_of p m t h) v refl (λ n. ap (λ r. runs_in (code_of p h.world) r (state_of p m t h) n) (literal_rule p tree v e))
+
+pub literal_plain : (p : Program) (tree : Tree) (v : Ref) → literal_of p tree ≡ Some v → is_splat tree ≡ false
+literal_plain p (splat t) v e = absurd (cc e)
+literal_plain p _ v e = refl
+
+truth_reached : (k : Reach) (b : Bool) → IsReached k (truth_ref b)
+truth_reached k true = tt
+truth_reached k false = tt
+
+class_reached : (k : Reach) (o : Option ClassId) (v : Ref) → option_map Class o ≡ Some v → IsReached k v
+class_reached k (Some c) v e = subst (λ (o : Option Ref). IfSome o (IsReached k)) e tt
+class_reached k None v e = absurd (cc e)
+
+pub literal_reached : (k : Reach) (p : Program) (tree : Tree) (v : Ref) → literal_of p tree ≡ Some v → IsReached k v
+literal_reached k p nil v e = subst (λ (o : Option Ref). IfSome o (IsReached k)) e tt
+literal_reached k p (truth b) v e = subst (λ (o : Option Ref). IfSome o (IsReached k)) e (truth_reached k b)
+literal_reached k p (symbol x) v e = subst (λ (o : Option Ref). IfSome o (IsReached k)) e tt
+literal_reached k p (class_named c) v e = subst (λ (o : Option Ref). IfSome o (IsReached k)) e tt
+literal_reached k p (constant (Plain x)) v e = class_reached k (own_class p x.0) v e
+literal_reached k p _ v e = absurd (cc e)
+
+-- `self`
+pub itself_takes : (p : Program) (m : View) (t : Table) (tree : Tree) → tree ≡ itself → TakesNow p m t tree 1 (running m.calls.frames).itself
+itself_takes p m t tree is = λ h. answers (code_of p h.world) tree itself (state_of p m t h) (running m.calls.frames).itself is (λ n. refl)

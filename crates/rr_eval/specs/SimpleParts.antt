@@ -1,11 +1,18 @@
 -- Parts that are evaluated without a frame, by what stands in the program.
-use Rattle.std.specs.Prelude.{◌≡◌, ℕ, List, Some, slice_get}
+use Rattle.std.specs.Prelude.{◌≡◌, ℕ, List, Option, None, Some, slice_get}
+use Rattle.std.specs.Option.{option_map}
 use Rattle.std.proofs.Props.{props}
 use Rattle.rr_tree.specs.Tree.{Tree, nil, truth, int, symbol, itself, class_named, constant, local, binary, tree_at}
 use Rattle.rr_tree.specs.declared.node.BinaryOperator.{BinaryOperator}
-use Rattle.rr_tree.specs.declared.node.Node.{Node}
+use Rattle.rr_tree.specs.declared.node.Path.TheVariants.{Plain}
+use Rattle.rr_tree.specs.declared.program.Program.{Program}
+use Rattle.rr_tree.specs.Sets.{Tree-set}
+use Rattle.rr_space.specs.Parts.{truth_ref}
+use Rattle.rr_space.specs.declared.refer.Ref.{Ref}
+use Rattle.rr_space.specs.declared.refer.Ref.TheVariants.{Nil, Symbol, Class}
+use Rattle.rr_eval.specs.Constants.{own_class}
 use Rattle.rr_eval.specs.declared.simple_parts.SimplePart.{SimplePart}
-use Rattle.rr_eval.specs.declared.simple_parts.SimplePart.TheVariants.{Variable, Int, WithInt, WithVariable, Apart, Reading, Other}
+use Rattle.rr_eval.specs.declared.simple_parts.SimplePart.TheVariants.{Variable, Int, WithInt, WithVariable, Value, Itself, Reading, Other}
 
 -- an operand that is an integer or a variable
 abbrev pub operand_of : Tree → SimplePart
@@ -19,36 +26,42 @@ operation_of op (Variable v) (Int z) = WithInt op v z
 operation_of op (Variable v) (Variable w) = WithVariable op v w
 operation_of op _ _ = Other
 
--- what a part is
+-- what a part is, as far as integers and variables go
 abbrev pub simple_of : Tree → SimplePart
 simple_of (int z) = Int z
 simple_of (local depth slot x behind) = Variable (record { depth = depth; slot = slot })
 simple_of (binary op a b) = operation_of op (operand_of a) (operand_of b)
-simple_of nil = Apart
-simple_of (truth b) = Apart
-simple_of (symbol x) = Apart
-simple_of itself = Apart
-simple_of (class_named k) = Apart
-simple_of (constant path) = Apart
 simple_of _ = Other
 
--- what a part is taken for is what it is; of a reading nothing is said
-abbrev pub IsSimple : Tree → SimplePart → Type 0
-IsSimple tree Reading = Unit {0}
-IsSimple tree s = s ≡ simple_of tree
+-- the value that a part has in a program whatever runs: a literal, or a class of the program
+abbrev pub literal_of : Program → Tree → Option Ref
+literal_of p nil = Some Nil
+literal_of p (truth b) = Some (truth_ref b)
+literal_of p (symbol x) = Some (Symbol (record { 0 = x }))
+literal_of p (class_named k) = Some (Class k)
+literal_of p (constant (Plain x)) = option_map Class (own_class p x.0)
+literal_of p _ = None
 
-pub IsSimple-prop : (tree : Tree) (s : SimplePart) → IsProp (IsSimple tree s)
-IsSimple-prop tree Reading = Prim.hlevel props
-IsSimple-prop tree (Variable v) = Prim.hlevel props
-IsSimple-prop tree (Int z) = Prim.hlevel props
-IsSimple-prop tree (WithInt op v z) = Prim.hlevel props
-IsSimple-prop tree (WithVariable op v w) = Prim.hlevel props
-IsSimple-prop tree Apart = Prim.hlevel props
-IsSimple-prop tree Other = Prim.hlevel props
+-- what a part is taken for is what it is; of a reading nothing is said
+abbrev pub IsSimple : Program → Tree → SimplePart → Type 0
+IsSimple p tree (Value v) = literal_of p tree ≡ Some v
+IsSimple p tree Itself = tree ≡ itself
+IsSimple p tree Reading = Unit {0}
+IsSimple p tree s = s ≡ simple_of tree
+
+pub IsSimple-prop : (p : Program) (tree : Tree) (s : SimplePart) → IsProp (IsSimple p tree s)
+IsSimple-prop p tree Reading = Prim.hlevel props
+IsSimple-prop p tree (Value v) = Prim.hlevel props
+IsSimple-prop p tree Itself = Prim.hlevel (props, Tree-set)
+IsSimple-prop p tree (Variable v) = Prim.hlevel props
+IsSimple-prop p tree (Int z) = Prim.hlevel props
+IsSimple-prop p tree (WithInt op v z) = Prim.hlevel props
+IsSimple-prop p tree (WithVariable op v w) = Prim.hlevel props
+IsSimple-prop p tree Other = Prim.hlevel props
 
 -- parts by their places
-abbrev pub AreSimple : List Node → List SimplePart → Type 0
-AreSimple ns parts = (x : ℕ) (s : SimplePart) → slice_get parts x ≡ Some s → IsSimple (tree_at ns x) s
+abbrev pub AreSimple : Program → List SimplePart → Type 0
+AreSimple p parts = (x : ℕ) (s : SimplePart) → slice_get parts x ≡ Some s → IsSimple p (tree_at p.nodes.items x) s
 
-pub AreSimple-prop : (ns : List Node) (parts : List SimplePart) → IsProp (AreSimple ns parts)
-AreSimple-prop ns parts = Prim.hlevel (props, IsSimple-prop)
+pub AreSimple-prop : (p : Program) (parts : List SimplePart) → IsProp (AreSimple p parts)
+AreSimple-prop p parts = Prim.hlevel (props, IsSimple-prop)

@@ -77,6 +77,7 @@ impl Engine {
     }
 
     /// What a part reads, and how many steps that takes.
+    #[cold]
     #[inline(never)]
     fn reading(&self, prepared: &Prepared, space: &Space, place: NodeId) -> Option<Quick>
         ensures takes { IfSome result (λ q. TakesNow prepared.now.program (view_of self.now) space.now (tree_at prepared.now.program.nodes.items place) q.steps q.value) }

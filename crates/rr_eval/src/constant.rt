@@ -42,7 +42,7 @@ fn own_place(program: &Program, name: Sym) -> Option<usize>
 }
 
 /// The class of the program that has a name.
-fn own_class(program: &Program, name: Sym) -> Option<ClassId>
+pub fn own_class(program: &Program, name: Sym) -> Option<ClassId>
     ensures { result ≡ own_class program.now name.0 }
 {
     match own_place(program, name) {
@@ -51,17 +51,6 @@ fn own_class(program: &Program, name: Sym) -> Option<ClassId>
             Err(_) => None,
         },
         None => None,
-    }
-}
-
-/// The class of the program that a path names.
-#[inline(always)]
-pub fn class_at_path(program: &Program, path: Path) -> Option<ClassId>
-    ensures { IfSome result (λ k. rule (context_of program.now) (constant path) ≡ Ret (Answered.Gave (Value.Class k))) }
-{
-    match path {
-        Path::Plain(name) => own_class(program, name),
-        Path::Ractor(_) => None,
     }
 }
 

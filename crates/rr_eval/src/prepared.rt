@@ -102,7 +102,7 @@ pub struct Prepared {
     ghost plains: { ArePlain (context_of program) plain.items } by { ArePlain-prop (context_of program) plain.items },
     ghost initializes: { AreInitializers (context_of program) initializers.items } by { AreInitializers-prop (context_of program) initializers.items },
     ghost evaluates: { AreEvaluated program.nodes.items nodes.items } by { AreEvaluated-prop program.nodes.items nodes.items },
-    ghost simples: { AreSimple program.nodes.items parts.items } by { AreSimple-prop program.nodes.items parts.items },
+    ghost simples: { AreSimple program parts.items } by { AreSimple-prop program parts.items },
 }
 
 impl Prepared {
@@ -167,7 +167,7 @@ impl Prepared {
     /// What the part at a place is, where one stands there.
     #[inline(always)]
     pub(crate) fn part(&self, place: NodeId) -> Option<&SimplePart>
-        ensures { IfSome result (λ s. IsSimple (tree_at self.now.program.nodes.items place) s.now) }
+        ensures { IfSome result (λ s. IsSimple self.now.program (tree_at self.now.program.nodes.items place) s.now) }
     {
         match self.parts.get(place as usize) {
             Some(part) => Some(part),

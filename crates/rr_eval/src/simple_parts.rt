@@ -1,15 +1,18 @@
 //! Parts that are evaluated without a frame most often, read out of the program beforehand.
 
-ghost use Rattle.std.specs.Prelude.{◌≡◌, IfOk};
+ghost use Rattle.std.specs.Prelude.{◌≡◌, Some, IfOk, IfSome};
 ghost use Rattle.rr_tree.specs.Tree.{tree_at};
-ghost use Rattle.rr_eval.specs.SimpleParts.{AreSimple, IsSimple, operand_of, operation_of, simple_of};
+ghost use Rattle.rr_eval.specs.Nodes.{evaluated_tree, IsEvaluated};
+ghost use Rattle.rr_eval.specs.SimpleParts.{AreSimple, IsSimple, literal_of, operand_of, operation_of, simple_of};
 
 use crate::call_stack::Variable;
+use crate::constant::own_class;
 use crate::nodes::evaluated_node;
 use crate::plain_methods::PlainMethod;
 use crate::prepared::Work;
 use rr_base::Sym;
-use rr_tree::{BinaryOperator, Node, NodeId, Program};
+use rr_space::Ref;
+use rr_tree::{BinaryOperator, Node, NodeId, Path, Program};
 use std::alloc::{AllocError, Global};
 
 /// What a part is, as far as it is evaluated without a frame.
@@ -23,8 +26,10 @@ pub enum SimplePart {
     WithInt(BinaryOperator, Variable, i64),
     /// An operator on two variables.
     WithVariable(BinaryOperator, Variable, Variable),
-    /// Another literal, `self`, or a constant.
-    Apart,
+    /// Another literal, or a class of the program, whose value this is.
+    Value(Ref),
+    /// `self`.
+    Itself,
     /// What is taken for an instance variable, or for an attribute of an object that a variable holds.
     Reading,
     /// A part that needs a frame.
@@ -57,20 +62,16 @@ fn operation(op: BinaryOperator, left: SimplePart, right: SimplePart) -> SimpleP
     }
 }
 
-/// What the part at a place is.
-fn simple_at(program: &Program, place: NodeId) -> SimplePart
-    ensures { result ≡ simple_of (tree_at program.now.nodes.items place) }
+/// What a node is, as far as integers and variables go.
+#[inline(always)]
+fn simple(program: &Program, node: Node) -> SimplePart
+    requires { IsEvaluated node }
+    ensures { result ≡ simple_of (evaluated_tree program.now.nodes.items node) }
 {
-    match evaluated_node(program, place) {
+    match node {
         Node::Int(z) => SimplePart::Int(z),
         Node::Local { depth, slot, .. } => SimplePart::Variable(Variable { depth, slot }),
         Node::Binary(op, a, b) => operation(op, operand_at(program, a), operand_at(program, b)),
-        Node::Nil
-        | Node::Truth(_)
-        | Node::Symbol(_)
-        | Node::Itself
-        | Node::Class(_)
-        | Node::Constant(_) => SimplePart::Apart,
         _ => SimplePart::Other,
     }
 }
@@ -89,9 +90,28 @@ fn is_attribute(plain: &Vec<PlainMethod>, name: Sym) -> bool {
     }
 }
 
-/// Whether a part is taken for one that reads what an object holds.
-fn is_reading(program: &Program, plain: &Vec<PlainMethod>, place: NodeId) -> bool {
-    match evaluated_node(program, place) {
+/// The value that a node has whatever runs: another literal, or a class of the program.
+#[inline(always)]
+fn literal(program: &Program, node: Node) -> Option<Ref>
+    ensures { IfSome result (λ v. literal_of program.now (evaluated_tree program.now.nodes.items node) ≡ Some v) }
+{
+    match node {
+        Node::Nil => Some(Ref::Nil),
+        Node::Truth(truth) => Some(Ref::truth(truth)),
+        Node::Symbol(name) => Some(Ref::Symbol(name)),
+        Node::Class(class) => Some(Ref::Class(class)),
+        Node::Constant(Path::Plain(name)) => match own_class(program, name) {
+            Some(class) => Some(Ref::Class(class)),
+            None => None,
+        },
+        _ => None,
+    }
+}
+
+/// Whether a node is taken for one that reads what an object holds.
+#[inline(always)]
+fn is_reading(program: &Program, plain: &Vec<PlainMethod>, node: Node) -> bool {
+    match node {
         Node::Field(_) => true,
         Node::Send {
             receiver,
@@ -108,11 +128,16 @@ fn is_reading(program: &Program, plain: &Vec<PlainMethod>, place: NodeId) -> boo
 
 /// What the part at a place is, or is taken for.
 fn part_at(program: &Program, plain: &Vec<PlainMethod>, place: NodeId) -> SimplePart
-    ensures { IsSimple (tree_at program.now.nodes.items place) result }
+    ensures { IsSimple program.now (tree_at program.now.nodes.items place) result }
 {
-    match simple_at(program, place) {
-        SimplePart::Other if is_reading(program, plain, place) => SimplePart::Reading,
-        part => part,
+    let node = evaluated_node(program, place);
+    if let Some(value) = literal(program, node) {
+        return SimplePart::Value(value);
+    }
+    match node {
+        Node::Itself => SimplePart::Itself,
+        _ if is_reading(program, plain, node) => SimplePart::Reading,
+        _ => simple(program, node),
     }
 }
 
@@ -122,7 +147,7 @@ pub fn simple_parts(
     program: &Program,
     plain: &Vec<PlainMethod>,
 ) -> Result<Vec<SimplePart>, AllocError>
-    ensures { IfOk result (λ parts. AreSimple program.now.nodes.items parts.items) }
+    ensures { IfOk result (λ parts. AreSimple program.now parts.items) }
 {
     let mut parts = Vec::new(alloc);
     for number in 0..program.nodes.len() {

@@ -19,7 +19,6 @@ ghost use Rattle.rr_eval.specs.Views.{view_of};
 ghost use Rattle.rr_eval.specs.Within.{Reach, reach, IsReached, IsFrameReached, AreReached};
 
 use crate::call_stack::Variable;
-use crate::constant::class_at_path;
 use crate::engine::{Engine, push_within};
 use crate::frame::{Control, Frame};
 use crate::nodes::evaluated_node;
@@ -115,43 +114,8 @@ fn operated(op: BinaryOperator, left: Ref, right: Ref) -> Option<Ref>
 }
 
 impl Engine {
-    /// The value of a node that needs no frame and is none of the most frequent kinds.
-    #[cold]
-    #[inline(never)]
-    fn quick_apart(&self, program: &Program, place: NodeId) -> Option<Ref>
-        ensures takes { (t : Table) → IfSome result (TakesNow program.now (view_of self.now) t (tree_at program.now.nodes.items place) 1) }
-        ensures plain { IfSome result (λ _. is_splat (tree_at program.now.nodes.items place) ≡ false) }
-        ensures within { (k : Reach) → AreReached k (view_of self.now) → IfSome result (IsReached k) }
-    {
-        match evaluated_node(program, place) {
-            Node::Nil => Some(Ref::Nil),
-            Node::Truth(truth) => Some(Ref::truth(truth)),
-            Node::Symbol(name) => Some(Ref::Symbol(name)),
-            Node::Class(class) => Some(Ref::Class(class)),
-            Node::Itself => Some(self.itself()),
-            Node::Constant(path) => {
-                let class = class_at_path(program, path)?;
-                Some(Ref::Class(class))
-            }
-            _ => None,
-        }
-    }
-
-    /// Such a value, which takes a step. It is written into memory here, and so that of no other node has to be.
-    #[inline(always)]
-    fn quick_other(&self, program: &Program, place: NodeId) -> Option<Quick>
-        ensures takes { (t : Table) → IfSome result (λ q. TakesNow program.now (view_of self.now) t (tree_at program.now.nodes.items place) q.steps q.value) }
-        ensures plain { IfSome result (λ _. is_splat (tree_at program.now.nodes.items place) ≡ false) }
-        ensures one { IfSome result (λ q. q.steps ≡ 1) }
-        ensures within { (k : Reach) → AreReached k (view_of self.now) → IfSome result (λ q. IsReached k q.value) }
-    {
-        match self.quick_apart(program, place) {
-            Some(value) => Some(Quick::one(value)),
-            None => None,
-        }
-    }
-
-    /// The value of a part, where that is an integer, a variable, or an operator on a variable and another of these that are integers.
+    /// The value of a part, where that is a literal, a class of the program, a variable, `self`, or an operator on a variable and a leaf
+    /// that are integers.
     #[inline(always)]
     fn quick_simple(&self, prepared: &Prepared, place: NodeId) -> Option<Quick>
         ensures takes { (t : Table) → IfSome result (λ q. TakesNow prepared.now.program (view_of self.now) t (tree_at prepared.now.program.nodes.items place) q.steps q.value) }
@@ -175,12 +139,13 @@ impl Engine {
                     None => None,
                 }
             }
+            Some(&SimplePart::Value(value)) => Some(Quick::one(value)),
+            Some(&SimplePart::Itself) => Some(Quick::one(self.itself())),
             _ => None,
         }
     }
 
-    /// The value of a part, where that is a literal, a class, a variable, `self`, what an object holds, or an operator on a variable and a
-    /// leaf that are integers.
+    /// The value of such a part, or of one that reads what an object holds.
     #[inline(always)]
     pub fn quick(&self, prepared: &Prepared, space: &Space, place: NodeId) -> Option<Quick>
         ensures takes { IfSome result (λ q. TakesNow prepared.now.program (view_of self.now) space.now (tree_at prepared.now.program.nodes.items place) q.steps q.value) }
@@ -190,7 +155,6 @@ impl Engine {
         ensures within { (clusters : Option Below) → AreReached (reach (length space.now.slots) clusters) (view_of self.now) → IfSome result (λ q. IsReached (reach (length space.now.slots) clusters) q.value) }
     {
         match prepared.part(place) {
-            Some(&SimplePart::Apart) => self.quick_other(&prepared.program, place),
             Some(&SimplePart::Reading) => self.quick_reading(prepared, space, place),
             _ => self.quick_simple(prepared, place),
         }

@@ -156,6 +156,7 @@ impl Engine {
         }
         if self.begin_method(definition, Frame::Argument(target, end, 0, base), None) {
             self.left = self.left - parts.steps - 1;
+            self.enter_single(&prepared.program, stop);
             return true;
         }
         self.held.truncate(base);

@@ -71,6 +71,7 @@ impl Engine {
         let passing = Passing::All;
         if self.begin_sent(space, definition, found.value, passing, Frame::Not, None) {
             self.left -= found.steps + 1;
+            self.enter_single(&prepared.program, stop);
             return true;
         }
         false
@@ -115,6 +116,7 @@ impl Engine {
         let passing = Passing::All;
         if self.begin_sent(space, definition, found.value, passing, Frame::Not, last) {
             self.left -= found.steps + argument.steps + 1;
+            self.enter_single(&prepared.program, stop);
             return true;
         }
         false
@@ -171,6 +173,7 @@ impl Engine {
         let passing = Passing::BehindReceiver;
         if self.begin_sent(space, definition, found.value, passing, frame, None) {
             self.left = self.left - steps - 1;
+            self.enter_single(&prepared.program, stop);
             return true;
         }
         self.held.truncate(base);

@@ -6,10 +6,10 @@ use Rattle.rr_eval.proofs.simple_parts.simple_parts.Goals as goal
 
 pub loop-number-preserved : goal.loop-number-preserved
 loop-number-preserved c =
-    let ns = c.args.program.now.nodes.items in
+    let p = c.args.program.now in
     let now = c.loop-number.invariant in
     let all = c.loop-number.parts.items in
     let part = c.part_at.result in
     let at : length all ≡ c.in-Ok.place = omega (arith, now.1, c.in-Ok.ensures) in
     let items = c.in_ok-push.ensures.items in
-    (subst (AreSimple ns) (sym items) (simple_more ns all part c.in-Ok.place at now.0 c.part_at.ensures), ap length items ∙ length-append all (part ∷ []) ∙ ap (λ n. n + 1) now.1)
+    (subst (AreSimple p) (sym items) (simple_more p all part c.in-Ok.place at now.0 c.part_at.ensures), ap length items ∙ length-append all (part ∷ []) ∙ ap (λ n. n + 1) now.1)

@@ -47,11 +47,12 @@ returns-then-begin_method-clause-goes c = λ _ h.
     ∙ c.begin_method.ensures.goes c.if-begin_method.true p c.args.name t h (n.left - (parts.steps + 1))
     ∙ ap (λ i. remaining_with p (view_of c.begin_method.new.self) t h (i - (parts.steps + 1))) (sym c.begin_method.ensures.left)
     ∙ ap (λ i. remaining_with p (view_of c.begin_method.new.self) t h i) spent
+    ∙ c.enter_single.ensures.goes t h
 
 pub returns-then-begin_method-clause-within : goal.returns-then-begin_method-clause-within
 returns-then-begin_method-clause-within c clusters h =
     let k = reach (length c.args.space.now.slots) clusters in
-    with_left k (view_of c.begin_method.new.self) _ (c.begin_method.ensures.within k (c.hold_parts-parts.ensures.within clusters h) (all_nil (IsReached k)))
+    c.enter_single.ensures.within k (with_left k (view_of c.begin_method.new.self) _ (c.begin_method.ensures.within k (c.hold_parts-parts.ensures.within clusters h) (all_nil (IsReached k))))
 
 pub returns-clause-same : goal.returns-clause-same
 returns-clause-same c = λ _.

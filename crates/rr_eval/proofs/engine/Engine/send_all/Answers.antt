@@ -61,11 +61,12 @@ returns-then-begin_sent-clause-goes c = λ _ h.
     ∙ c.begin_sent.ensures.goes c.if-begin_sent.true p c.args.name h (n.left - (all + 1))
     ∙ ap (λ i. remaining_with p (view_of c.begin_sent.new.self) t h (i - (all + 1))) (sym c.begin_sent.ensures.left)
     ∙ ap (λ i. remaining_with p (view_of c.begin_sent.new.self) t h i) spent
+    ∙ c.enter_single.ensures.goes t h
 
 pub returns-then-begin_sent-clause-within : goal.returns-then-begin_sent-clause-within
 returns-then-begin_sent-clause-within c clusters h =
     let k = reach (length c.args.space.now.slots) clusters in
-    with_left k (view_of c.begin_sent.new.self) _ (c.begin_sent.ensures.within clusters (c.hold_receiver-parts.ensures.within clusters h (c.requires.value clusters h)) (c.requires.value clusters h) (all_nil (IsReached k)))
+    c.enter_single.ensures.within k (with_left k (view_of c.begin_sent.new.self) _ (c.begin_sent.ensures.within clusters (c.hold_receiver-parts.ensures.within clusters h (c.requires.value clusters h)) (c.requires.value clusters h) (all_nil (IsReached k))))
 
 pub returns-clause-same : goal.returns-clause-same
 returns-clause-same c = λ _.

@@ -18,8 +18,9 @@ returns-then-begin_sent-clause-goes c = λ _ h.
     sent_bare p m t c.args.here found.steps found.value c.args.name (callable_of p.nodes.items c.args.definition) h c.requires.control c.requires.comes c.requires.joins c.requires.method (omega (arith, enough))
     ∙ c.begin_sent.ensures.goes c.if-begin_sent.true p c.args.name h (m.left - (found.steps + 1))
     ∙ ap (λ n. remaining_with p (view_of c.begin_sent.new.self) t h (n - (found.steps + 1))) (sym c.begin_sent.ensures.left)
+    ∙ c.enter_single.ensures.goes t h
 
 pub returns-then-begin_sent-clause-within : goal.returns-then-begin_sent-clause-within
 returns-then-begin_sent-clause-within c clusters h =
     let k = reach (length c.args.space.now.slots) clusters in
-    with_left k (view_of c.begin_sent.new.self) _ (c.begin_sent.ensures.within clusters h (c.requires.value clusters h) (all_nil (IsReached k)))
+    c.enter_single.ensures.within k (with_left k (view_of c.begin_sent.new.self) _ (c.begin_sent.ensures.within clusters h (c.requires.value clusters h) (all_nil (IsReached k))))
