@@ -58,7 +58,16 @@ a sum of two variables out of range|a = 9223372036854775807; b = 1; begin; a = a
 a method of its own class, called without a receiver|class A; def f(x); g(x + 1); end; def g(y); y * 2; end; end; p A.new.f(3)^n|8^n|
 a method of the program, called in a class|def f(a, b); a - b; end; class A; def g(x); f(x, 1); end; end; p A.new.g(5)^n|4^n|
 no method of its own class|class A; def f(x); g(x); end; end; begin; A.new.f(1); rescue NoMethodError; p 2; end^n|2^n|
-a method of the class above|class A; attr_reader :b; def f(x); x + @b; end; end; class B < A; def initialize; @b = 3; end; end; p B.new.b, B.new.f(4)^n|3^n7^n|";
+a method of the class above|class A; attr_reader :b; def f(x); x + @b; end; end; class B < A; def initialize; @b = 3; end; end; p B.new.b, B.new.f(4)^n|3^n7^n|
+an attribute that another class has as a method|class A; attr_reader :v; def initialize(v); @v = v; end; end; class B; def v; 5; end; end; a = A.new(1); b = B.new; x = a.v; y = b.v; p x + y^n|6^n|
+an attribute that a class below has as a method|class A; attr_reader :v; def initialize; @v = 1; end; end; class B < A; def v; p 0; @v + 1; end; end; a = A.new; b = B.new; x = b.v; y = a.v; p x, y^n|0^n2^n1^n|
+an attribute of what has none|class A; attr_reader :v; end; a = 1; begin; x = a.v; rescue NoMethodError; p 2; end; p x^n|2^nnil^n|
+an operator on an instance variable that was never set|class A; def f; x = @v; y = @v + 1; end; end; begin; A.new.f; rescue NoMethodError; p 1; end^n|1^n|
+operators on instance variables|class A; def initialize; @a = 6; @b = 3; end; def f; @a - @b * 2 + @a / @b; end; end; p A.new.f^n|2^n|
+attributes as arguments, as an index and as a condition|class A; attr_reader :v; def initialize(v); @v = v; end; end; def f(a, b); a - b; end; a = A.new(5); b = [7, 8]; c = A.new(1); p f(a.v, c.v), b[c.v]; p 3 if c.v^n|4^n8^n3^n|
+literals and a class as arguments|class A; end; def f(a, b, c, d); [a, b, c, d]; end; p f(nil, true, :b, A), f(A, false, self.equal?(self), 1)[1]^n|[nil, true, :b, A]^nfalse^n|
+an attribute in a block|class A; attr_reader :v; def initialize; @v = 4; end; end; a = A.new; 2.times { x = a.v; p x; a = A.new }^n|4^n4^n|
+three statements in a method of a receiver, and one|class A; def f; x = 1; x = x + 1; x * 2; end; def g; 7; end; end; a = A.new; p a.f, a.g^n|4^n7^n|";
 
 #[test]
 fn parts_at_once_print_what_is_wanted(rt: HostRuntime) -> Result<(), Fail> {
