@@ -3,8 +3,7 @@ use Rattle.std.proofs.Common.{◌≡◌, ℕ, suc, ◌+◌, ap, ◌∙◌, sym, 
 use Rattle.rr_base.specs.declared.name.Sym.{Sym}
 use Rattle.rr_space.specs.Tables.{Table}
 use Rattle.rr_space.specs.declared.refer.Ref.{Ref}
-use Rattle.rr_tree.specs.Tree.{Tree, binary, field, send, empty}
-use Rattle.rr_tree.specs.declared.node.BinaryOperator.{BinaryOperator}
+use Rattle.rr_tree.specs.Tree.{Tree, field, send, empty}
 use Rattle.rr_tree.specs.declared.program.Program.{Program}
 use Rattle.rr_builtin.specs.Fields.{field_at}
 use Rattle.rr_eval.specs.declared.call.Callee.TheVariants.{Name}
@@ -12,17 +11,14 @@ use Rattle.rr_eval.specs.declared.call.Target.TheVariants.{Call}
 use Rattle.rr_eval.specs.declared.call_stack.CallValue.TheVariants.{Method}
 use Rattle.rr_eval.specs.declared.prepared.Definition.{Definition}
 use Rattle.rr_eval.specs.declared.prepared.Work.TheVariants.{Read}
-use Rattle.rr_eval.specs.declared.problem.Answer.TheVariants.{Gave}
 use Rattle.rr_eval.specs.declared.problem.Response.TheVariants.{Gives}
 use Rattle.rr_eval.specs.Blocks.{running}
-use Rattle.rr_eval.specs.Context.{Context}
 use Rattle.rr_eval.specs.Dispatch.{dispatched, method_for, run_work, way_of, valued_response}
 use Rattle.rr_eval.specs.Fields.{field_response}
 use Rattle.rr_eval.specs.Frames.{means, runs_in}
 use Rattle.rr_eval.specs.Joins.{joined_by, joined_or_sent}
 use Rattle.rr_eval.specs.Prepared.{callable_of, work_in}
-use Rattle.rr_eval.specs.Rules.{on_value, with_value, operation, settled, arguments, finish}
-use Rattle.rr_eval.specs.Script.{Ret, after}
+use Rattle.rr_eval.specs.Rules.{on_value, settled, arguments, finish}
 use Rattle.rr_eval.specs.Turns.{context_of, code_of, state_of}
 use Rattle.rr_eval.specs.Usual.{GivesAtOnce, TakesNow}
 use Rattle.rr_eval.specs.View.{View}

@@ -8,7 +8,6 @@ use Rattle.rr_space.specs.declared.refer.Ref.{Ref}
 use Rattle.rr_space.specs.declared.refer.Ref.TheVariants.{Int as IntRef, Class}
 use Rattle.rr_tree.specs.Tree.{Tree, nil, truth, int, symbol, itself, class_named, constant, local, binary, splat, tree_at}
 use Rattle.rr_tree.specs.declared.node.BinaryOperator.{BinaryOperator}
-use Rattle.rr_tree.specs.declared.node.Node.{Node}
 use Rattle.rr_tree.specs.declared.program.Program.{Program}
 use Rattle.rr_eval.specs.declared.call_stack.Variable.{Variable as Named}
 use Rattle.rr_eval.specs.declared.problem.Answer.TheVariants.{Gave}

@@ -11,9 +11,6 @@ ghost use Rattle.rr_eval.specs.Constants.{own_class, constant_rule, set_response
 ghost use Rattle.rr_eval.specs.Frames.{below_of, base_of, Nested};
 ghost use Rattle.rr_eval.specs.Globals.{globals};
 ghost use Rattle.rr_eval.specs.Rules.{rule};
-ghost use Rattle.rr_eval.specs.Script.{Ret};
-ghost use Rattle.rr_eval.specs.declared.problem.Answer.{Answer as Answered};
-ghost use Rattle.rr_space.specs.declared.refer.Ref.{Ref as Value};
 ghost use Rattle.rr_eval.specs.Turns.{context_of, IsNested, after_script, after_values, asking_with, continuing, remaining_with, size, sized};
 ghost use Rattle.rr_eval.specs.Views.{view_of};
 ghost use Rattle.rr_eval.specs.Within.{Reach, reach, AreReached, IsReached, IsAskedReached, IsRequestReached, IsResponseReached};

@@ -21,7 +21,6 @@ ghost use Rattle.rr_eval.specs.Within.{Reach, reach, IsReached, IsFrameReached, 
 use crate::call_stack::Variable;
 use crate::engine::{Engine, push_within};
 use crate::frame::{Control, Frame};
-use crate::nodes::evaluated_node;
 use crate::operator::computed;
 use crate::prepared::Prepared;
 use crate::problem::Answer;

@@ -11,7 +11,7 @@ ghost use Rattle.rr_eval.specs.Requests.{Course};
 ghost use Rattle.rr_eval.specs.Turns.{IsNested, remaining, remaining_with, after_answer, more_of, power, size};
 ghost use Rattle.rr_eval.specs.Usual.{IsTop};
 ghost use Rattle.rr_eval.specs.Views.{view_of};
-ghost use Rattle.rr_eval.specs.Within.{Reach, reach, IsReached, IsFrameReached, IsAnswerReached, AreReached};
+ghost use Rattle.rr_eval.specs.Within.{Reach, reach, IsFrameReached, IsAnswerReached, AreReached};
 
 use crate::call_stack::{CallValue, Variable};
 use crate::engine::Engine;

@@ -1,6 +1,5 @@
 -- The rule of a list of one statement is what that comes to.
 use Rattle.std.proofs.Common.{◌≡◌, ◌+◌, ◌-◌, ◌∙◌, ap, sym, arith}
-use Rattle.rr_tree.specs.Nodes.{trees_before}
 use Rattle.rr_tree.specs.Tree.{tree_at}
 use Rattle.rr_tree.specs.declared.node.Node.TheVariants.{Sequence}
 use Rattle.rr_eval.specs.Nodes.{evaluated_tree}
