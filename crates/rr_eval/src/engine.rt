@@ -89,8 +89,8 @@ pub fn push_within<T: Drop>(items: &mut Vec<T>, item: T)
     items.push_reserved(item);
 }
 
-/// Changes an item where it lies, and gives what `change` gives. Generic, since what is written through `&mut` into a vector of a type that holds `&'static` is not
-/// known afterwards.
+/// Changes an item where it lies, and gives what `change` gives. Generic, since what is written through `&mut` into a vector of a type
+/// that holds `&'static` is not known afterwards.
 #[inline(always)]
 fn change_within<T, R, F: FnOnce(&mut T) -> R>(items: &mut Vec<T>, index: usize, change: F) -> R
     requires index { index < vec_len items.old }

@@ -38,7 +38,7 @@ pub struct Quick {
 impl Quick {
     /// A value that takes one step.
     #[inline(always)]
-    pub fn one(value: Ref) -> Quick
+    fn one(value: Ref) -> Quick
         ensures value { result.value ≡ value }
         ensures steps { result.steps ≡ 1 }
     {
