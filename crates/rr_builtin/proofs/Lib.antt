@@ -24,3 +24,5 @@ pub mod Fixing
 pub mod Owning
 pub mod Messaging
 pub mod Causing
+pub mod Answering
+pub mod Putting

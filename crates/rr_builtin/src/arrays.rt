@@ -25,6 +25,7 @@ use rr_space::{Kind, Ref, Space};
 use std::alloc::{AllocError, Global};
 
 /// The value under that place of an object, or nil.
+#[inline(always)]
 pub(crate) fn element(space: &Space, value: Ref, place: usize) -> Ref
     ensures is { value_of result ≡ element_at space.now value place }
     ensures within { IsWithin (length space.now.slots) result }

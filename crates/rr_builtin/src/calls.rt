@@ -20,6 +20,7 @@ use crate::method::{BuiltInMethod, NumberMethod, TellingMethod};
 use crate::news::{may_make, new_deed, takes_message};
 use crate::numbers::{number_answer, on_integer};
 use crate::objects::{is_equal, object_deed, raise, told, truth};
+use crate::often::call_content;
 use crate::problem::Problem;
 use crate::texts::{order_of, ordered, text_operator};
 use rr_base::{ClassId, Fault, Sym};
@@ -319,6 +320,27 @@ fn call_deed(
     method_deed(alloc, space, program, receiver, method, argument, second)
 }
 
+/// Calls any built-in method: a deed is made, and then done.
+// It stays out of `call`, whose frequent calls are then short.
+#[inline(never)]
+pub(crate) fn call_any(
+    alloc: Global,
+    space: &mut Space,
+    program: &Program,
+    receiver: Ref,
+    method: BuiltInMethod,
+    arguments: &[Ref],
+) -> Result<Built, Fault>
+    requires receiver { IsWithin (length space.old.slots) receiver }
+    requires arguments { All (IsWithin (length space.old.slots)) arguments.now }
+    ensures act { (below : Below) → IsReadWith space.old below → IsAmong below receiver → All (IsRefAmong below) arguments.now
+        → Acts below (called program.now below receiver method arguments.now) space.old space.new result }
+    ensures served { IsServed space.old space.new result }
+{
+    let deed = call_deed(alloc, space, program, receiver, method, arguments)?;
+    perform(alloc, space, receiver, deed)
+}
+
 /// Calls a built-in method. A refused growth leaves the objects as they were.
 ///
 /// It is asked in this order whether the receiver was moved away, whether it has the method, whether the number of
@@ -340,6 +362,10 @@ pub fn call(
         → Acts below (called program.now below receiver method arguments.now) space.old space.new result }
     ensures served { IsServed space.old space.new result }
 {
-    let deed = call_deed(alloc, space, program, receiver, method, arguments)?;
-    perform(alloc, space, receiver, deed)
+    match method {
+        BuiltInMethod::Content(content) => {
+            call_content(alloc, space, program, receiver, content, arguments)
+        }
+        _ => call_any(alloc, space, program, receiver, method, arguments),
+    }
 }

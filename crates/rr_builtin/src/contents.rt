@@ -37,6 +37,7 @@ use rr_text::{Compared, search};
 use rr_tree::Program;
 use std::alloc::Global;
 
+#[inline(always)]
 fn size_at(space: &Space, kind: Kind, value: Ref) -> usize
     ensures { result ≡ size_at kind space.now value }
 {
@@ -48,6 +49,7 @@ fn size_at(space: &Space, kind: Kind, value: Ref) -> usize
 }
 
 /// A number of 64 bits, if it is one.
+#[inline(always)]
 fn counted(count: usize) -> Result<i64, NumberProblem>
     ensures { result ≡ given (pos count) }
 {
@@ -58,12 +60,21 @@ fn counted(count: usize) -> Result<i64, NumberProblem>
     }
 }
 
+/// What `size` comes to.
+#[inline(always)]
+pub(crate) fn size_answer(space: &Space, kind: Kind, value: Ref) -> Built
+    ensures is { Answers (outcome_of result) ≡ size_act kind value space.now }
+    ensures plain { (k : ℕ) (below : Below) → IsBuiltWithin k result × IsBuiltAmong below result }
+{
+    number_given(counted(size_at(space, kind, value)))
+}
+
 fn size_deed(space: &Space, kind: Kind, value: Ref) -> Deed
     ensures act { act_of result ≡ size_act kind value space.now }
     ensures fit { IsFit space.now value result }
     ensures among { (below : Below) → IsDeedAmong below result }
 {
-    Deed::Answer(number_given(counted(size_at(space, kind, value))))
+    Deed::Answer(size_answer(space, kind, value))
 }
 
 fn is_empty(space: &Space, kind: Kind, value: Ref) -> bool
@@ -76,6 +87,7 @@ fn is_empty(space: &Space, kind: Kind, value: Ref) -> bool
 }
 
 /// The element of that place, or nil.
+#[inline(always)]
 pub(crate) fn element_at(space: &Space, array: Ref, place: usize) -> Built
     ensures is { outcome_of result ≡ Gives (element_at space.now array place) }
     ensures within { IsBuiltWithin (length space.now.slots) result }
@@ -88,6 +100,7 @@ pub(crate) fn element_at(space: &Space, array: Ref, place: usize) -> Built
 }
 
 /// The place that an index names among so many: a negative one counts from the end.
+#[inline(always)]
 pub(crate) fn place_of(index: i64, count: usize) -> Option<usize>
     ensures { result ≡ place_of index count }
 {

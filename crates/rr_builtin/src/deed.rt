@@ -87,7 +87,8 @@ fn append(space: &mut Space, text: Ref, bytes: &[u8]) -> Result<Built, Fault>
 }
 
 /// Puts a value behind the elements of an array, which may be written.
-fn push(space: &mut Space, array: Ref, value: Ref) -> Result<Built, Fault>
+#[inline(always)]
+pub(crate) fn push(space: &mut Space, array: Ref, value: Ref) -> Result<Built, Fault>
     requires within { IsWithin (length space.old.slots) array }
     requires can { IsTrue (can_write_at space.old array) }
     requires kind { kind_at space.old array ≡ Kind.Array }
@@ -130,6 +131,20 @@ pub fn make_array(space: &mut Space, items: Vec<Ref>) -> Result<Built, Fault>
     }
 }
 
+/// Puts a value in the place of an element of an array, which may be written.
+#[inline(always)]
+pub(crate) fn put_inside(space: &mut Space, array: Ref, place: usize, value: Ref) -> Built
+    requires can { IsTrue (can_write_at space.old array) }
+    requires kind { kind_at space.old array ≡ Kind.Array }
+    requires value { IsWithin (length space.old.slots) value }
+    requires place { place < length (triples_at space.old array) }
+    ensures act { (below : Below) → IsReadWith space.old below → IsRefAmong below value → IsDone below (performed (Puts place (value_of value)) array space.old) space.old space.new result }
+    ensures served { IsServed space.old space.new (Ok result) }
+{
+    space.write_element(array, place, value);
+    Built::Value(value)
+}
+
 /// Puts a value in the place of an element of an array, which may be written, or right behind the elements.
 fn put(space: &mut Space, array: Ref, place: usize, value: Ref) -> Result<Built, Fault>
     requires can { IsTrue (can_write_at space.old array) }
@@ -140,8 +155,7 @@ fn put(space: &mut Space, array: Ref, place: usize, value: Ref) -> Result<Built,
     ensures served { IsServed space.old space.new result }
 {
     if place < space.arity(array) {
-        space.write_element(array, place, value);
-        return Ok(Built::Value(value));
+        return Ok(put_inside(space, array, place, value));
     }
     match space.push_element(array, value) {
         Ok(()) => Ok(Built::Value(value)),

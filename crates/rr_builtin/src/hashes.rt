@@ -6,9 +6,10 @@ ghost use Rattle.rr_space.specs.Tables.{Below, HashKey};
 ghost use Rattle.rr_space.specs.Parts.{IsWithin};
 ghost use Rattle.rr_space.specs.Kinds.{kind_at};
 ghost use Rattle.rr_space.specs.Views.{key_of, keys_at, IsFirstAt};
+ghost use Rattle.rr_space.specs.Lookups.{key_at};
 ghost use Rattle.rr_text.specs.Keys.{pair_with};
 ghost use Rattle.rr_text.specs.Reads.{IsAmong, IsReadWith};
-ghost use Rattle.rr_builtin.specs.Acts.{IsRefAmong, IsBuiltWithin, IsBuiltAmong, outcome_of};
+ghost use Rattle.rr_builtin.specs.Acts.{Acts, Answers, IsServed, IsRefAmong, IsBuiltWithin, IsBuiltAmong, outcome_of, performed};
 ghost use Rattle.rr_builtin.specs.Deeds.{act_of, IsFit, IsDeedAmong, IsWritableHash, LacksKey, HasPair};
 ghost use Rattle.rr_builtin.specs.Hashes.{key_given, value_at, stored, hash_read, hash_has, hash_put, hash_delete};
 
@@ -36,6 +37,7 @@ pub(crate) fn key_given(alloc: Global, space: &Space, argument: Ref) -> Result<O
 }
 
 /// The value of a pair, or nil.
+#[inline(always)]
 fn value_at(space: &Space, hash: Ref, pair: Option<usize>) -> Built
     ensures is { outcome_of result ≡ value_at space.now hash pair }
     ensures within { IsBuiltWithin (length space.now.slots) result }
@@ -53,6 +55,29 @@ fn value_at(space: &Space, hash: Ref, pair: Option<usize>) -> Built
     }
 }
 
+/// What `[]` of a hash comes to.
+pub(crate) fn hash_value(
+    alloc: Global,
+    space: &Space,
+    hash: Ref,
+    argument: Ref,
+) -> Result<Built, Fault>
+    requires within { IsWithin (length space.now.slots) hash }
+    requires kind { kind_at space.now hash ≡ Kind.Hash }
+    ensures is { IfOk result (λ built. (below : Below) → IsReadWith space.now below → IsAmong below hash → Answers (outcome_of built) ≡ hash_read below hash argument space.now) }
+    ensures within { IfOk result (λ built. IsBuiltWithin (length space.now.slots) built) }
+    ensures among { IfOk result (λ built. (below : Below) → IsReadWith space.now below → IsRefAmong below hash → IsBuiltAmong below built) }
+    ensures fault { IfErr result (λ f. f ≡ Fault.Memory) }
+{
+    match key_given(alloc, space, argument)? {
+        Some(key) => {
+            let pair = pair_with(space, hash, &key);
+            Ok(value_at(space, hash, pair))
+        }
+        None => Ok(Built::Raised(Problem::WrongType(space.class_of(argument)))),
+    }
+}
+
 /// `[]` of a hash.
 pub(crate) fn hash_read(
     alloc: Global,
@@ -67,13 +92,7 @@ pub(crate) fn hash_read(
     ensures among { IfOk result (λ deed. (below : Below) → IsReadWith space.now below → IsRefAmong below hash → IsDeedAmong below deed) }
     ensures fault { IfErr result (λ f. f ≡ Fault.Memory) }
 {
-    match key_given(alloc, space, argument)? {
-        Some(key) => {
-            let pair = pair_with(space, hash, &key);
-            Ok(Deed::Answer(value_at(space, hash, pair)))
-        }
-        None => Ok(raise(Problem::WrongType(space.class_of(argument)))),
-    }
+    Ok(Deed::Answer(hash_value(alloc, space, hash, argument)?))
 }
 
 /// `key?`.
@@ -188,4 +207,31 @@ fn own_pair(space: &Space, hash: Ref, key: &Key) -> Option<usize>
 {
     let _count = space.len();
     space.find(hash, key)
+}
+
+/// Puts a value under a key of a hash, which may be written: in the pair that has the key, or in a new one behind the others,
+/// whose key object is this one.
+#[inline(always)]
+pub(crate) fn store(
+    space: &mut Space,
+    hash: Ref,
+    key: Key,
+    name: Ref,
+    value: Ref,
+) -> Result<Built, Fault>
+    requires hash { IsWritableHash space.old hash }
+    requires name { IsWithin (length space.old.slots) name }
+    requires value { IsWithin (length space.old.slots) value }
+    requires named { key_at space.old name ≡ Some (key_of key) }
+    ensures act { (below : Below) → IsReadWith space.old below → IsRefAmong below name → IsRefAmong below value
+        → Acts below (performed (stored (key_of key) (pair_with below space.old hash (key_of key)) name value space.old) hash) space.old space.new result }
+    ensures served { IsServed space.old space.new result }
+{
+    // The hash has its keys, as the clause of the number says.
+    let _count = space.len();
+    // The key is looked up once: whether it is there is not asked before.
+    match space.write_pair(hash, key, name, value) {
+        Ok(()) => Ok(Built::Value(value)),
+        Err(fault) => Err(fault),
+    }
 }

@@ -129,6 +129,7 @@ pub(crate) fn is_container(kind: Kind) -> bool
     }
 }
 
+#[inline(always)]
 pub(crate) fn is_hash(kind: Kind) -> bool
     ensures { result ≡ is_hash kind }
 {

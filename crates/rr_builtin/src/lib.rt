@@ -23,6 +23,7 @@ mod names;
 mod news;
 mod numbers;
 mod objects;
+mod often;
 mod problem;
 mod rounds;
 mod sorts;

@@ -17,6 +17,7 @@ use rr_base::ClassId;
 use rr_space::{Ref, Space};
 use rr_tree::BinaryOperator;
 
+#[inline(always)]
 pub(crate) fn number_given(number: Result<i64, NumberProblem>) -> Built
     ensures is { result ≡ number_given number }
     ensures plain { (k : ℕ) (below : Below) → IsBuiltWithin k result × IsBuiltAmong below result }

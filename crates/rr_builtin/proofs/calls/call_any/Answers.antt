@@ -4,7 +4,7 @@ use Rattle.rr_builtin.specs.Deeds.{act_of}
 use Rattle.rr_builtin.specs.Calls.{called}
 use Rattle.rr_builtin.proofs.Among.{of_among}
 use Rattle.rr_builtin.proofs.Performing.{acts_same}
-use Rattle.rr_builtin.proofs.calls.call.Goals as goal
+use Rattle.rr_builtin.proofs.calls.call_any.Goals as goal
 
 pub returns-clause-act : goal.returns-clause-act
 returns-clause-act c = λ below read among arguments.
