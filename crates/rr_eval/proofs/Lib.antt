@@ -16,6 +16,8 @@ pub mod Quickly
 pub mod QuickParts
 pub mod QuickCalls
 pub mod QuickSends
+pub mod QuickRequests
+pub mod Owned
 pub mod Finishing
 pub mod Bytes
 pub mod Printed

@@ -1,16 +1,23 @@
 -- Parts whose value needs no frame.
-use Rattle.std.specs.Prelude.{◌≡◌, ◌+◌, ◌-◌, ◌++◌, ℕ, List, Some, length, slice_get, take}
+use Rattle.std.specs.Prelude.{◌≡◌, ◌+◌, ◌-◌, ◌++◌, ◌∷◌, ℕ, List, Some, None, false, length, slice_get, take}
+use Rattle.rr_parser.specs.Grammar.Names.{is_splat}
 use Rattle.rr_space.specs.Tables.{Table}
 use Rattle.rr_space.specs.declared.refer.Ref.{Ref}
 use Rattle.rr_tree.specs.Tree.{Tree}
 use Rattle.rr_tree.specs.declared.program.Program.{Program}
+use Rattle.rr_eval.specs.declared.call.Callee.{Callee}
+use Rattle.rr_eval.specs.declared.call.Target.TheVariants.{Call}
 use Rattle.rr_eval.specs.declared.frame.Frame.{Frame}
 use Rattle.rr_eval.specs.declared.problem.Answer.TheVariants.{Gave}
+use Rattle.rr_eval.specs.Callees.{method_of}
+use Rattle.rr_eval.specs.Context.{Context}
+use Rattle.rr_eval.specs.Dispatch.{made_by, method_for}
 use Rattle.rr_eval.specs.Frames.{Code, means, runs_in}
+use Rattle.rr_eval.specs.Joins.{joined_by}
 use Rattle.rr_eval.specs.Requests.{Course}
-use Rattle.rr_eval.specs.Rules.{arguments}
+use Rattle.rr_eval.specs.Rules.{arguments, finish}
 use Rattle.rr_eval.specs.Script.{State, Script, Ended}
-use Rattle.rr_eval.specs.Turns.{context_of, code_of, state_of}
+use Rattle.rr_eval.specs.Turns.{context_of, code_of, state_of, after_answer, after_values}
 use Rattle.rr_eval.specs.View.{View}
 
 -- a tree takes so many steps, leaves all as it is, and has this value
@@ -48,3 +55,20 @@ pub record HoldsMore (old new : View) : Type 0 where
 -- a frame lies on top of the others
 abbrev pub IsTop : List Frame → Frame → Type 0
 IsTop fs f = slice_get fs (length fs - 1) ≡ Some f
+
+-- A call of a receiver is asked of the environment as it stands: it joins no array, runs no method of the program, and makes no object
+-- that the program initializes.
+pub record IsAskedFor (c : Context) (t : Table) (callee : Callee) (v : Ref) : Type 0 where
+  pub joins : joined_by c t callee v ≡ None
+  pub method : method_for c t v callee ≡ None
+  pub makes : made_by c (method_of c callee) v ≡ None
+
+-- a script evaluates two trees, of which the second is no splat, and goes on with their values, where both leave all as it is
+abbrev pub TakesTwo : Program → Script → Tree → Tree → (Ref → Ref → Script) → Type 0
+TakesTwo p script a b next =
+    (m : View) (t : Table) (i j : ℕ) (v w : Ref) → TakesNow p m t a i v → TakesNow p m t b j w → is_splat b ≡ false → ComesTo p m t script (i + j) (next v w)
+
+-- a frame that gets a value goes on as a call of a receiver with these arguments, behind so many steps, whatever frames lie below it
+abbrev pub GoesOnAsCall : Program → View → Table → Frame → Ref → ℕ → Callee → Ref → List Ref → Type 0
+GoesOnAsCall p m t f x steps callee v vs =
+    (fs : List Frame) (h : Course) (n : ℕ) → after_answer p (record m { frames = fs }) t f (Gave x) h (steps + n) ≡ after_values p (record m { frames = fs }) t f (finish (context_of p) (Call callee) (v ∷ vs)) h n

@@ -12,7 +12,7 @@ ghost use Rattle.rr_eval.specs.Views.{view_of};
 ghost use Rattle.rr_eval.specs.Within.{reach, IsAskedReached, IsRequestReached, IsTurnReached, AreReached, AreWithin, KeepsReach, KeepsRead};
 
 use crate::engine::{Engine, Turn, stop_of};
-use crate::frame::{Control, Frame};
+use crate::frame::Control;
 use crate::nodes::evaluated_node;
 use crate::prepared::Prepared;
 use crate::problem::Answer;
@@ -185,26 +185,25 @@ impl Engine {
         }
     }
 
-    /// Asks for an assignment to an instance variable, where the topmost frame waits for its value, which is there.
+    /// Asks for what is asked most: an assignment to an instance variable, and a call of a built-in method with few arguments, where all
+    /// values are there or need no frame.
     #[inline(always)]
-    pub fn ask_often(&mut self, prepared: &Prepared, space: &Space) -> Option<Request>
+    pub fn ask_often(&mut self, prepared: &Prepared, space: &Space, stop: u64) -> Option<Request>
         requires nested { IsNested (view_of self.old) }
+        requires stop { stop ≤ self.old.left }
         ensures goes { IfSome result (λ q. (h : Course) → remaining prepared.now.program (view_of self.old) space.now h ≡ asking_then prepared.now.program (view_of self.new) space.now (asked_of space.now q) h) }
         ensures nested { IsNested (view_of self.new) }
         ensures within { (clusters : Option Below) → AreReached (reach (length space.now.slots) clusters) (view_of self.old) → AreReached (reach (length space.now.slots) clusters) (view_of self.new) }
         ensures asks { (clusters : Option Below) → AreReached (reach (length space.now.slots) clusters) (view_of self.old) → IfSome result (IsRequestReached (reach (length space.now.slots) clusters)) }
-        ensures left { self.new.left ≡ self.old.left }
+        ensures left { stop ≤ self.new.left }
         ensures falls { IfSome result (λ q. 9 * self.new.left + sized (Option.Some q) (view_of self.new) < power (view_of self.old)) }
         ensures none { IfNone result (view_of self.new ≡ view_of self.old) }
     {
-        let Control::Give(Answer::Gave(value)) = self.control else {
-            return None;
-        };
-        let Some(&Frame::SetField(name)) = self.frames.last() else {
-            return None;
-        };
-        self.take_top(Frame::SetField(name), Answer::Gave(value));
-        Some(self.ask_field(name, value))
+        match self.control {
+            Control::Enter(here) => self.ask_call(prepared, space, here, stop),
+            Control::Give(Answer::Gave(value)) => self.ask_given(prepared, space, value, stop),
+            _ => None,
+        }
     }
 
     /// One act: what stops the turn then, where something does. A refused growth leaves what is still to be done as it is.

@@ -7,21 +7,22 @@ ghost use Rattle.rr_builtin.specs.Methods.{method_named};
 ghost use Rattle.rr_eval.specs.Alone.{AloneBy, SpecialExceeds, special_of};
 ghost use Rattle.rr_eval.specs.Published.{published};
 ghost use Rattle.rr_eval.specs.Requests.{asked_of};
+ghost use Rattle.rr_eval.specs.declared.request.Request.{Request as Requests};
 ghost use Rattle.rr_eval.specs.Runs.{piece_asked};
 ghost use Rattle.rr_eval.specs.Serves.{IsLeft, IsRefusedBy};
 ghost use Rattle.rr_eval.specs.Turns.{context_of};
 ghost use Rattle.rr_eval.specs.Within.{reach, IsRequestReached};
 
-use crate::call::{Arguments, Task};
+use crate::call::{Arguments, Call, Task};
 use crate::copying::shareable_copy;
 use crate::print::Served;
 use crate::request::Request;
-use crate::serve::{serve, serve_field};
+use crate::serve::{serve, serve_field, serve_own};
 use crate::setting::set_constant;
 use crate::special::{Special, special_of};
 use rr_base::Fault;
 use rr_builtin::Methods;
-use rr_space::Space;
+use rr_space::{Ref, Space};
 use rr_store::StoreState;
 use rr_tree::Program;
 use std::alloc::Global;
@@ -65,6 +66,31 @@ fn serve_apart(
     }
 }
 
+/// Serves a call of a script that runs alone. Most receivers are objects of the script's own.
+#[inline(always)]
+fn serve_called_alone(
+    alloc: Global,
+    space: &mut Space,
+    store: &mut StoreState,
+    program: &Program,
+    methods: &Methods,
+    call: Call,
+) -> Result<Served, Fault>
+    requires methods { methods.now ≡ map (λ s. method_named s.items) program.now.symbols.items }
+    requires read { IsReadWith space.old (published store.old) }
+    requires reached { IsRequestReached (reach (length space.old.slots) (Some (published store.old))) (Requests.Call call) }
+    ensures piece { IfOk result (λ served. served.piece.items ≡ piece_asked (context_of program.now) (asked_of space.old (Requests.Call call))) }
+    ensures replied { IfOk result (λ served. AloneBy (special_of (context_of program.now) (asked_of space.old (Requests.Call call)) space.old) (context_of program.now) store.old (asked_of space.old (Requests.Call call)) space.old served.response space.new store.new) }
+    ensures left { IfOk result (λ served. IsLeft (published store.new) space.old served.response space.new) }
+    ensures more { (e : ℕ × List Object) → Contains (published store.old) e → Contains (published store.new) e }
+    ensures refused { IfErr result (λ f. IsRefusedBy (SpecialExceeds (special_of (context_of program.now) (asked_of space.old (Requests.Call call)) space.old) (context_of program.now) store.old space.old.limit (asked_of space.old (Requests.Call call)) space.old) f) }
+{
+    match call.receiver {
+        Ref::Local(_) => serve_own(alloc, space, store, program, methods, &call),
+        _ => serve_apart(alloc, space, store, program, methods, Request::Call(call)),
+    }
+}
+
 /// Serves a request of a script that runs alone. A refused growth leaves the objects as they were, beside new ones to which nothing
 /// leads.
 #[inline(always)]
@@ -85,8 +111,11 @@ pub fn serve_alone(
     ensures more { (e : ℕ × List Object) → Contains (published store.old) e → Contains (published store.new) e }
     ensures refused { IfErr result (λ f. IsRefusedBy (SpecialExceeds (special_of (context_of program.now) (asked_of space.old request) space.old) (context_of program.now) store.old space.old.limit (asked_of space.old request) space.old) f) }
 {
-    if let Request::Do(Task::SetField(name), Arguments::Two(object, value)) = request {
-        return serve_field(alloc, space, store, program, name, object, value);
+    match request {
+        Request::Do(Task::SetField(name), Arguments::Two(object, value)) => {
+            serve_field(alloc, space, store, program, name, object, value)
+        }
+        Request::Call(call) => serve_called_alone(alloc, space, store, program, methods, call),
+        _ => serve_apart(alloc, space, store, program, methods, request),
     }
-    serve_apart(alloc, space, store, program, methods, request)
 }

@@ -303,6 +303,7 @@ impl Engine {
 
     /// At most `budget` steps. A refused growth leaves what is still to be done as it is, and the next turn goes on there.
     #[tactic(auto, using(crate::proofs::Changing::changes_trans, crate::proofs::Changing::changes_none))]
+    #[inline(always)]
     pub fn turn(
         &mut self,
         prepared: &Prepared,
@@ -324,7 +325,7 @@ impl Engine {
         let stop = self.left.saturating_sub(u64::from(budget));
         loop {
             self.act_usual(prepared, space, stop);
-            if let Some(request) = self.ask_often(prepared, space) {
+            if let Some(request) = self.ask_often(prepared, space, stop) {
                 return Ok(Turn::Ask(request));
             }
             if let Some(turn) = self.act(prepared, space, stop)? {

@@ -88,6 +88,7 @@ mod usual_calls;
 mod usual_finish;
 mod usual_new;
 mod usual_receivers;
+mod usual_requests;
 mod usual_rounds;
 mod usual_sends;
 mod usual_turn;

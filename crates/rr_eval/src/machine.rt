@@ -146,6 +146,7 @@ impl Machine {
     /// The faults are `Memory` and `Limit(Slots)`, the second only where what is still to be done makes more objects than
     /// the space may have. A refused growth leaves what is still to be done as it is, and the
     /// next turn goes on there.
+    #[inline(always)]
     pub fn turn(
         &mut self,
         prepared: &Prepared,

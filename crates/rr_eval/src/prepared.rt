@@ -1,6 +1,6 @@
 //! Programs that are ready to run.
 
-ghost use Rattle.std.specs.Prelude.{◌≡◌, ◌++◌, ◌∷◌, [], codes, map, None, Some, IfOk, IfSome, slice_index_or};
+ghost use Rattle.std.specs.Prelude.{◌≡◌, ◌++◌, ◌∷◌, [], codes, map, None, Some, IfOk, IfSome, IsFalse, slice_index_or};
 ghost use Rattle.rr_eval.specs.Above.{method_above};
 ghost use Rattle.std.specs.Option.{option_map};
 ghost use Rattle.rr_tree.specs.Tree.{tree_at};
@@ -149,6 +149,14 @@ impl Prepared {
         ensures { option_map (callable_of self.now.program.nodes.items) result ≡ method_called (context_of self.now.program) class (called_name (context_of self.now.program) callee) }
     {
         method_called(&self.program, &self.table, &self.operators, class, callee)
+    }
+
+    /// Whether the program has a name for what is called, without which none of its methods is.
+    #[inline(always)]
+    pub(crate) fn has_name(&self, callee: Callee) -> bool
+        ensures { IsFalse result → called_name (context_of self.now.program) callee ≡ None }
+    {
+        self.operators.called_name(&self.program, callee).is_some()
     }
 
     /// The node that is evaluated at a place, where one stands there: an item of a list stands for its part. Its parts are read in
@@ -302,6 +310,7 @@ impl Prepared {
     }
 
     /// The built-in method that is called; none where no method has the name.
+    #[inline(always)]
     pub(crate) fn built_in(&self, callee: Callee) -> Option<BuiltInMethod>
         ensures { result ≡ method_of (context_of self.now.program) callee }
     {
@@ -320,6 +329,7 @@ impl Prepared {
     }
 
     /// The class of the object that a call of a built-in method makes, where the object gets the program's `initialize`.
+    #[inline(always)]
     pub(crate) fn made_by(&self, receiver: Ref, callee: Callee) -> Option<ClassId>
         ensures { result ≡ made_by (context_of self.now.program) (method_of (context_of self.now.program) callee) receiver }
     {

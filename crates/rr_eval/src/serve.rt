@@ -13,8 +13,10 @@ ghost use Rattle.rr_eval.specs.Callees.{method_of};
 ghost use Rattle.rr_eval.specs.Calls.{sent, call_reply};
 ghost use Rattle.rr_eval.specs.declared.call.Task.{Task as Tasks};
 ghost use Rattle.rr_eval.specs.Requests.{arguments_of, asked_of};
+ghost use Rattle.rr_eval.specs.Prepared.{IsLocal};
 ghost use Rattle.rr_eval.specs.Published.{published};
 ghost use Rattle.rr_eval.specs.Runs.{piece_asked};
+ghost use Rattle.rr_eval.specs.Script.{Calls};
 ghost use Rattle.rr_eval.specs.Serves.{IsLeft, IsReplied, IsRefused, IsTaskReplied, IsTaskRefused, IsRequestReplied, IsRequestRefused};
 ghost use Rattle.rr_eval.specs.Sharing.{called_reply, ractor_method};
 ghost use Rattle.rr_eval.specs.Tasks.{piece_of};
@@ -41,6 +43,7 @@ use rr_tree::Program;
 use std::alloc::Global;
 
 /// The built-in method that is called; none where no method has the name.
+#[inline(always)]
 pub fn method_of(program: &Program, methods: &Methods, callee: Callee) -> Option<BuiltInMethod>
     requires { methods.now ≡ map (λ s. method_named s.items) program.now.symbols.items }
     ensures { result ≡ method_of (context_of program.now) callee }
@@ -59,6 +62,7 @@ pub fn method_of(program: &Program, methods: &Methods, callee: Callee) -> Option
 }
 
 /// What a message calls a receiver that has no such method.
+#[inline(always)]
 pub fn receiver_of(space: &Space, receiver: Ref) -> Receiver
     ensures { result ≡ receiver_of space.now receiver }
 {
@@ -128,6 +132,7 @@ fn send_with(
 }
 
 /// What is responded to a call.
+#[inline(always)]
 pub fn response_from(missing: Problem, built: Built) -> Response
     ensures is { result ≡ response_from missing built }
 {
@@ -154,7 +159,7 @@ pub fn serve_method(
     ensures replied { IfOk result (λ r. IsReplied (published store.now) (call_reply (context_of program.now) call.now.receiver call.now.callee (arguments_of call.now.arguments) space.old) space.old r space.new) }
     ensures refused { IfErr result (IsRefused (call_reply (context_of program.now) call.now.receiver call.now.callee (arguments_of call.now.arguments) space.old) space.old) }
 {
-    let missing = Problem::MissingMethod(call.callee, receiver_of(space, call.receiver));
+    let receiver = receiver_of(space, call.receiver);
     match send_with(
         alloc,
         space,
@@ -165,6 +170,7 @@ pub fn serve_method(
     ) {
         Ok(built) => {
             let _after = space.len();
+            let missing = Problem::MissingMethod(call.callee, receiver);
             Ok(response_from(missing, built))
         }
         Err(fault) => Err(fault),
@@ -172,6 +178,7 @@ pub fn serve_method(
 }
 
 /// Serves a call. A refused growth leaves the objects as they were.
+#[inline(always)]
 fn serve_call(
     alloc: Global,
     space: &mut Space,
@@ -188,6 +195,35 @@ fn serve_call(
 {
     let method = method_of(program, methods, call.callee);
     serve_method(alloc, space, store, program, call, method)
+}
+
+/// Serves a call of a receiver that is an object of the space, which no method of Ractor has. A refused growth leaves the objects as
+/// they were.
+#[inline(always)]
+pub fn serve_own(
+    alloc: Global,
+    space: &mut Space,
+    store: &StoreState,
+    program: &Program,
+    methods: &Methods,
+    call: &Call,
+) -> Result<Served, Fault>
+    requires own { IsLocal call.now.receiver }
+    requires methods { methods.now ≡ map (λ s. method_named s.items) program.now.symbols.items }
+    requires read { IsReadWith space.old (published store.now) }
+    requires reached { IsCallReached (reach (length space.old.slots) (Some (published store.now))) call.now }
+    ensures piece { IfOk result (λ served. served.piece.items ≡ []) }
+    ensures replied { IfOk result (λ served. IsRequestReplied (context_of program.now) (published store.now) (Calls call.now.receiver call.now.callee (arguments_of call.now.arguments)) space.old served.response space.new) }
+    ensures left { IfOk result (λ served. IsLeft (published store.now) space.old served.response space.new) }
+    ensures refused { IfErr result (IsRequestRefused (context_of program.now) (published store.now) (Calls call.now.receiver call.now.callee (arguments_of call.now.arguments)) space.old) }
+{
+    match serve_call(alloc, space, store, program, methods, call) {
+        Ok(response) => Ok(Served {
+            piece: Vec::new(alloc),
+            response,
+        }),
+        Err(fault) => Err(fault),
+    }
 }
 
 /// Serves a call, of a method of Ractor too. A refused growth leaves the objects as they were.

@@ -16,9 +16,9 @@ returns-in-Ok-clause-replied c =
     let t = c.args.space.now in
     let u = c.send_with.new.space in
     let below = published c.args.store.now in
-    let missing = MissingMethod call.callee c.receiver_of.result in
+    let missing = MissingMethod call.callee c.receiver_of-receiver.result in
     subst (λ r. IsReplied below (call_reply p call.receiver call.callee (arguments_of call.arguments) t) t r u) (sym c.response_from.ensures.is)
-    (call_replied p call t u c.args.method below c.requires.read c.requires.reached c.requires.method missing c.in-Ok.built c.in-Ok.ensures (ap (λ x. MissingMethod call.callee x) c.receiver_of.ensures))
+    (call_replied p call t u c.args.method below c.requires.read c.requires.reached c.requires.method missing c.in-Ok.built c.in-Ok.ensures (ap (λ x. MissingMethod call.callee x) c.receiver_of-receiver.ensures))
 
 pub returns-in-Err-clause-refused : goal.returns-in-Err-clause-refused
 returns-in-Err-clause-refused c =

@@ -1,0 +1,30 @@
+-- The receiver and the argument are evaluated at once.
+use Rattle.std.proofs.Common.{◌∷◌, [], sym, subst, refl, length}
+use Rattle.rr_tree.specs.Tree.{tree_at}
+use Rattle.rr_eval.specs.declared.call.Target.TheVariants.{Call}
+use Rattle.rr_eval.specs.Rules.{rule, finish}
+use Rattle.rr_eval.specs.Turns.{context_of}
+use Rattle.rr_eval.specs.Usual.{ComesTo}
+use Rattle.rr_eval.specs.Views.{view_of}
+use Rattle.rr_eval.specs.Within.{reach, IsReached}
+use Rattle.rr_eval.proofs.Holding.{all_cons, all_nil}
+use Rattle.rr_eval.proofs.engine.Engine.ask_pair.Goals as goal
+
+pub returns-clause-goes : goal.returns-clause-goes
+returns-clause-goes c h =
+    let p = c.args.prepared.now.program in
+    let ns = p.nodes.items in
+    let own = context_of p in
+    let m = view_of c.args.self.now in
+    let t = c.args.space.now in
+    let found = c.in-Some.found in
+    let last = c.in-Some-quick_before.last in
+    c.ask_with.ensures.goes p t
+    (subst (λ i. ComesTo p m t (rule own (tree_at ns c.args.here)) i (finish own (Call c.args.callee) (found.value ∷ last.value ∷ []))) (sym c.steps_together-steps.ensures)
+    (c.requires.script m t found.steps last.steps found.value last.value c.in-Some.ensures.takes c.in-Some-quick_before.ensures.takes c.in-Some-quick_before.ensures.plain))
+    (c.if-not-is_asked_for.ensures refl) h
+
+pub returns-clause-asks : goal.returns-clause-asks
+returns-clause-asks c clusters h =
+    let k = reach (length c.args.space.now.slots) clusters in
+    c.ask_with.ensures.asks k (c.in-Some.ensures.within clusters h) (all_cons (IsReached k) c.in-Some-quick_before.last.value [] (c.in-Some-quick_before.ensures.within clusters h) (all_nil (IsReached k)))
