@@ -92,4 +92,6 @@ mod usual;
 #[cfg(test)]
 mod usual_objects;
 #[cfg(test)]
+mod usual_requests;
+#[cfg(test)]
 mod writers;
