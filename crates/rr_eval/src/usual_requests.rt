@@ -1,4 +1,4 @@
-//! Calls of built-in methods whose receiver and arguments need no frame: they are asked for at once, in front of acts of any kind.
+//! Calls of built-in methods whose values are there or need no frame: they are asked for at once, in front of acts of any kind.
 
 ghost use Rattle.std.specs.Prelude.{◌≡◌, ◌+◌, ◌*◌, ◌<◌, ◌≤◌, ℕ, List, [], ◌∷◌, ◌++◌, length, take, drop, slice_index_or, Option, IfSome, IfNone, IsTrue};
 ghost use Rattle.std.specs.List.{All};
