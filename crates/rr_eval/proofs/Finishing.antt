@@ -11,13 +11,14 @@ use Rattle.rr_tree.specs.Tree.{tree_at}
 use Rattle.rr_eval.specs.declared.call.Callee.TheVariants.{Name}
 use Rattle.rr_eval.specs.declared.call.Target.{Target}
 use Rattle.rr_eval.specs.declared.frame.Frame.{Frame}
-use Rattle.rr_eval.specs.declared.frame.Frame.TheVariants.{Item, Receiver}
+use Rattle.rr_eval.specs.declared.frame.Frame.TheVariants.{Argument, Item, Receiver}
 use Rattle.rr_eval.specs.declared.problem.Answer.TheVariants.{Gave}
 use Rattle.rr_eval.specs.Dispatch.{dispatched, method_for, run_method, way_of}
 use Rattle.rr_eval.specs.Frames.{runs_in, unwind}
 use Rattle.rr_eval.specs.Methods.{Callable}
 use Rattle.rr_eval.specs.Requests.{Course}
-use Rattle.rr_eval.specs.Rules.{arguments, finish}
+use Rattle.rr_eval.specs.Rules.{on_value, arguments, finish}
+use Rattle.rr_eval.specs.Script.{Go}
 use Rattle.rr_eval.specs.Splats.{spread}
 use Rattle.rr_eval.specs.Turns.{context_of, code_of, state_of, after_answer, after_values}
 use Rattle.rr_eval.specs.Updating.{sent_first}
@@ -29,6 +30,14 @@ pub run_first : (p : Program) (m : View) (t : Table) (f : Frame) (x : Sym) (meth
     ≡ after_values p m t f (run_method (context_of p) method (way_of (Name x) None (slice_index_or (vs ++ v ∷ []) 0 Nil) (drop 1 (vs ++ v ∷ []))) (drop 1 (vs ++ v ∷ []))) h n
 run_first p m t f x method [] v h n is = ap (λ g. after_values p m t f (dispatched (context_of p) g (Name x) None v []) h n) (sym is)
 run_first p m t f x method (u ∷ us) v h n is = ap (λ g. after_values p m t f (dispatched (context_of p) g (Name x) None u (us ++ v ∷ [])) h n) (sym is)
+
+-- one part that is still to be evaluated, and is no splat, is kept as a receiver's only argument is
+pub one_waits : (p : Program) (m : View) (t : Table) (target : Target) (end base : ℕ) (v : Ref) (h : Course) (n : ℕ) → is_splat (tree_at p.nodes.items (end - 1)) ≡ false
+    → after_answer p m t (Argument target end 1 base) (Gave v) h n ≡ after_answer p m t (Receiver target end 1 base) (Gave v) h n
+one_waits p m t target end base v h n plain =
+    let own = context_of p in
+    let code = code_of p h.world in
+    ap (λ b. unwind code (reverse m.frames) (take base m.held) (runs_in code (Go (tree_at p.nodes.items (end - 1)) (on_value (λ w. spread own b w (λ ws. finish own target ((drop base m.held ++ v ∷ []) ++ ws))))) (state_of p m t h) n)) (sym plain)
 
 -- a part of a list that is no splat is kept as a receiver is
 pub item_waits : (p : Program) (m : View) (t : Table) (target : Target) (end count base : ℕ) (v : Ref) (h : Course) (n : ℕ) → is_splat (tree_at p.nodes.items (end - suc count)) ≡ false

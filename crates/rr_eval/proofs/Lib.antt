@@ -17,7 +17,6 @@ pub mod QuickParts
 pub mod QuickCalls
 pub mod QuickSends
 pub mod QuickRequests
-pub mod Owned
 pub mod Finishing
 pub mod Bytes
 pub mod Printed

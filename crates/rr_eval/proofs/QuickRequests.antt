@@ -1,5 +1,5 @@
 -- Calls that are asked for at once.
-use Rattle.std.proofs.Common.{◌≡◌, ℕ, ◌+◌, ◌-◌, ◌<◌, ◌≤◌, ap, sym, subst, ◌∙◌, arith, false, List, [], ◌∷◌, ◌++◌, length, take, drop, reverse, None}
+use Rattle.std.proofs.Common.{◌≡◌, ℕ, ◌+◌, ◌-◌, ◌<◌, ◌≤◌, ap, sym, subst, ◌∙◌, arith, false, List, [], ◌∷◌, ◌++◌, length, take, drop, reverse, suc, Option, None}
 use Rattle.std.proofs.lemmas.List.{drop_all}
 use Rattle.rr_space.specs.Tables.{Table}
 use Rattle.rr_space.specs.declared.refer.Ref.{Ref}
@@ -7,21 +7,27 @@ use Rattle.rr_tree.specs.Nodes.{trees_before}
 use Rattle.rr_tree.specs.Tree.{Tree, tree_at}
 use Rattle.rr_tree.specs.declared.program.Program.{Program}
 use Rattle.rr_parser.specs.Grammar.Names.{is_splat}
+use Rattle.rr_tree.specs.declared.node.BinaryOperator.{BinaryOperator}
 use Rattle.rr_eval.specs.declared.call.Callee.{Callee}
+use Rattle.rr_eval.specs.declared.call.Callee.TheVariants.{Operator}
 use Rattle.rr_eval.specs.declared.call.Target.TheVariants.{Call}
-use Rattle.rr_eval.specs.declared.frame.Control.TheVariants.{Enter, Give}
+use Rattle.rr_eval.specs.declared.frame.Control.TheVariants.{Enter, Give, Send}
 use Rattle.rr_eval.specs.declared.frame.Frame.{Frame}
-use Rattle.rr_eval.specs.declared.frame.Frame.TheVariants.{Argument}
+use Rattle.rr_eval.specs.declared.frame.Frame.TheVariants.{Argument, Put, Right}
+use Rattle.rr_eval.specs.declared.updating.Place.TheVariants.{Sent}
 use Rattle.rr_eval.specs.declared.problem.Answer.TheVariants.{Gave}
-use Rattle.rr_eval.specs.Dispatch.{built_in, dispatched}
+use Rattle.rr_eval.specs.Dispatch.{built_in, dispatched, operation, part_called, send_rule}
 use Rattle.rr_eval.specs.Frames.{below_of, runs_in, unwind, outcome_of}
-use Rattle.rr_eval.specs.Joins.{joined_or_sent}
+use Rattle.rr_eval.specs.Joins.{joined_by, joined_or_sent}
 use Rattle.rr_eval.specs.Requests.{Course}
 use Rattle.rr_eval.specs.Rules.{rule, on_value, with_value, values, arguments, finish}
 use Rattle.rr_eval.specs.Script.{Script, Calls}
 use Rattle.rr_eval.specs.Turns.{context_of, code_of, state_of, remaining, after_script, after_answer, after_values, asking_with}
+use Rattle.rr_eval.specs.Updating.{sent_first}
 use Rattle.rr_eval.specs.Usual.{TakesNow, TakesTwo, ComesTo, GoesOnAsCall, IsAskedFor}
 use Rattle.rr_eval.specs.View.{View}
+use Rattle.rr_frames.specs.Frames.{list_of}
+use Rattle.rr_eval.proofs.CallParts.{call_steps}
 use Rattle.rr_eval.proofs.QuickParts.{argument_comes, part_comes, comes_then}
 use Rattle.rr_eval.proofs.QuickSends.{comes_first}
 use Rattle.rr_eval.proofs.Unwind.{given}
@@ -37,6 +43,37 @@ asked_known p m t here steps v vs callee h at comes is less =
     ∙ ap (λ o. after_script p m t (joined_or_sent own o callee v vs) h k) is.joins
     ∙ ap (λ g. after_script p m t (dispatched own g callee None v vs) h k) is.method
     ∙ ap (λ g. after_script p m t (built_in own g callee None v vs) h k) is.makes
+
+-- an operator that is a call is asked
+pub operator_asked : (p : Program) (m : View) (t : Table) (op : BinaryOperator) (v w : Ref) (h : Course) (n : ℕ) → operation (context_of p) op v w ≡ send_rule (context_of p) (Operator op) None v (w ∷ []) → IsAskedFor (context_of p) t (Operator op) v
+    → after_answer p m t (Right op v) (Gave w) h n ≡ asking_with p m t (Calls v (Operator op) (w ∷ [])) h n
+operator_asked p m t op v w h n called is =
+    let own = context_of p in
+    ap (λ r. after_script p m t r h n) called
+    ∙ ap (λ g. after_script p m t (dispatched own g (Operator op) None v (w ∷ [])) h n) is.method
+    ∙ ap (λ g. after_script p m t (built_in own g (Operator op) None v (w ∷ [])) h n) is.makes
+
+-- a call that comes first is asked
+pub part_asked : (p : Program) (m : View) (t : Table) (callee : Callee) (v : Ref) (w : Option Ref) (h : Course) → m.control ≡ Send callee v w → 0 < m.left → ((u : Ref) (vs : List Ref) → part_called (context_of p) callee u vs ≡ send_rule (context_of p) callee None u vs) → IsAskedFor (context_of p) t callee v
+    → remaining p m t h ≡ asking_with p m t (Calls v callee (list_of w)) h (m.left - 1)
+part_asked p m t callee v w h at some sent is =
+    let own = context_of p in
+    let n = m.left - 1 in
+    let one : m.left ≡ suc n = omega (arith, some) in
+    call_steps p m t n callee v w at one h
+    ∙ ap (λ r. after_script p m t r h n) (sent v (list_of w))
+    ∙ ap (λ g. after_script p m t (dispatched own g callee None v (list_of w)) h n) is.method
+    ∙ ap (λ g. after_script p m t (built_in own g callee None v (list_of w)) h n) is.makes
+
+-- a call that assigns to an element, over its receiver and its index
+pub put_waits : (p : Program) (m : View) (t : Table) (base : ℕ) (x v : Ref) (vs : List Ref) (callee : Callee) → joined_by (context_of p) t callee v ≡ None → v ∷ vs ≡ drop base m.held ++ x ∷ [] → GoesOnAsCall p m t (Put (Sent callee) base) x 0 callee v vs
+put_waits p m t base x v vs callee none all = λ fs h n.
+    let own = context_of p in
+    let k = record m { frames = fs } in
+    let zero : 0 + n ≡ n = omega arith in
+    ap (λ i. after_answer p k t (Put (Sent callee) base) (Gave x) h i) zero
+    ∙ ap (λ (l : List Ref). after_values p k t (Put (Sent callee) base) (sent_first own callee l) h n) (sym all)
+    ∙ ap (λ o. after_values p k t (Put (Sent callee) base) (joined_or_sent own o callee v vs) h n) (sym none)
 
 -- a receiver alone is evaluated
 pub bare_comes : (p : Program) (m : View) (t : Table) (script : Script) (a : Tree) (i : ℕ) (v : Ref) (next : List Ref → Script) → script ≡ with_value a (λ u. next (u ∷ [])) → TakesNow p m t a i v → ComesTo p m t script i (next (v ∷ []))

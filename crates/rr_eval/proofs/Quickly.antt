@@ -38,24 +38,30 @@ leaf_takes p m t (int z) v e = λ h. answers (code_of p h.world) (int z) (int z)
 leaf_takes p m t (local depth slot x behind) v e = λ h. answers (code_of p h.world) (local depth slot x behind) (local depth slot x behind) (state_of p m t h) v refl (λ n. ap (λ y. Ended (Gave y) (state_of p m t h) n) (cc e))
 leaf_takes p m t _ v e = absurd (cc e)
 
--- A node that evaluates a part first, for which a frame waits: the frame gets the value.
-pub under : (p : Program) (m : View) (t : Table) (here part steps : ℕ) (v : Ref) (f : Frame) (h : Course) → m.control ≡ Enter here
-    → ((w : World) → rule (context_of p) (tree_at p.nodes.items here) ≡ Go (tree_at p.nodes.items part) (resumed (code_of p w) f [])) → IsNew f (length m.held) → TakesNow p m t (tree_at p.nodes.items part) steps v → steps < m.left
+-- What comes first evaluates a part first, for which a frame waits: the frame gets the value.
+pub under_tree : (p : Program) (m : View) (t : Table) (tree part : Tree) (steps : ℕ) (v : Ref) (f : Frame) (h : Course) → first_tree p.nodes.items m.control ≡ Some tree
+    → ((w : World) → rule (context_of p) tree ≡ Go part (resumed (code_of p w) f [])) → IsNew f (length m.held) → TakesNow p m t part steps v → steps < m.left
     → remaining p m t h ≡ after_answer p m t f (Gave v) h (m.left - (steps + 1))
-under p m t here part steps v f h at script new takes less =
-    let ns = p.nodes.items in
+under_tree p m t tree part steps v f h at script new takes less =
     let c = code_of p h.world in
     let s = state_of p m t h in
     let n = m.left - (steps + 1) in
     let next = λ (a : Answer). runs_in c (resumed c f [] a) in
     let one : m.left ≡ suc (m.left - 1) = omega (arith, less) in
     let others : m.left - 1 ≡ steps + n = omega (arith, less) in
-    stepped p m t (m.left - 1) (tree_at ns here) (ap (first_tree ns) at) one h
+    stepped p m t (m.left - 1) tree at one h
     ∙ ap (λ r. after_script p m t r h (m.left - 1)) (script h.world)
-    ∙ ap (λ k. unwind c (reverse m.frames) m.held (after (means c (tree_at ns part) s k) next)) others
+    ∙ ap (λ k. unwind c (reverse m.frames) m.held (after (means c part s k) next)) others
     ∙ ap (λ o. unwind c (reverse m.frames) m.held (after o next)) (takes h n)
     ∙ asking_frame c m.frames f m.held (Ended (Gave v) s n) new
     ∙ given c m.frames f m.held (Gave v) s n
+
+-- so does a node
+pub under : (p : Program) (m : View) (t : Table) (here part steps : ℕ) (v : Ref) (f : Frame) (h : Course) → m.control ≡ Enter here
+    → ((w : World) → rule (context_of p) (tree_at p.nodes.items here) ≡ Go (tree_at p.nodes.items part) (resumed (code_of p w) f [])) → IsNew f (length m.held) → TakesNow p m t (tree_at p.nodes.items part) steps v → steps < m.left
+    → remaining p m t h ≡ after_answer p m t f (Gave v) h (m.left - (steps + 1))
+under p m t here part steps v f h at script new takes less =
+    under_tree p m t (tree_at p.nodes.items here) (tree_at p.nodes.items part) steps v f h (ap (first_tree p.nodes.items) at) script new takes less
 
 -- a frame that waits for a part begins within what stands
 pub waits_within : (m : View) (f : Frame) → IsNew f (length m.held) → Nested (reverse m.frames) m.held → (base_of f ≤ length m.held) × Nested (reverse m.frames) (below_of f m.held)

@@ -102,17 +102,21 @@ int_takes p m t (int y) z e = leaf_takes p m t (int y) (IntRef z) (int_leaf (int
 int_takes p m t (binary o a b) z e = absurd (operation_int o (operand_of a) (operand_of b) z (sym e))
 int_takes p m t _ z e = absurd (cc e)
 
--- an operator whose operands are leaves takes three steps
-operands_take : (p : Program) (m : View) (t : Table) (op : BinaryOperator) (a b : Tree) (v w r : Ref) → leaf_value a m.calls.frames ≡ Some v → leaf_value b m.calls.frames ≡ Some w → ((c : Context) → operation c op v w ≡ Ret (Gave r)) → TakesNow p m t (binary op a b) 3 r
-operands_take p m t op a b v w r first second is = λ h n.
+-- an operator on two parts takes a step more than they
+pub operation_takes : (p : Program) (m : View) (t : Table) (op : BinaryOperator) (a b : Tree) (i j : ℕ) (v w r : Ref) → TakesNow p m t a i v → TakesNow p m t b j w → ((c : Context) → operation c op v w ≡ Ret (Gave r)) → TakesNow p m t (binary op a b) (i + j + 1) r
+operation_takes p m t op a b i j v w r first second is = λ h n.
     let c = code_of p h.world in
     let s = state_of p m t h in
-    let three : 3 + n ≡ suc (1 + (1 + n)) = omega arith in
-    ap (means c (binary op a b) s) three
-    ∙ meaning_rule c.context c.world (binary op a b) s (1 + (1 + n))
-    ∙ ap (λ o. after o (λ q. runs_in c (on_value (λ x. with_value b (operation c.context op x)) q))) (leaf_takes p m t a v first h (1 + n))
-    ∙ ap (λ o. after o (λ q. runs_in c (on_value (operation c.context op v) q))) (leaf_takes p m t b w second h n)
+    let sum : i + j + 1 + n ≡ suc (i + (j + n)) = omega arith in
+    ap (means c (binary op a b) s) sum
+    ∙ meaning_rule c.context c.world (binary op a b) s (i + (j + n))
+    ∙ ap (λ o. after o (λ q. runs_in c (on_value (λ x. with_value b (operation c.context op x)) q))) (first h (j + n))
+    ∙ ap (λ o. after o (λ q. runs_in c (on_value (operation c.context op v) q))) (second h n)
     ∙ ap (λ q. runs_in c q s n) (is c.context)
+
+-- an operator whose operands are leaves takes three steps
+operands_take : (p : Program) (m : View) (t : Table) (op : BinaryOperator) (a b : Tree) (v w r : Ref) → leaf_value a m.calls.frames ≡ Some v → leaf_value b m.calls.frames ≡ Some w → ((c : Context) → operation c op v w ≡ Ret (Gave r)) → TakesNow p m t (binary op a b) 3 r
+operands_take p m t op a b v w r first second is = operation_takes p m t op a b 1 1 v w r (leaf_takes p m t a v first) (leaf_takes p m t b w second) is
 
 -- an operator on a variable and an integer
 pub with_int_takes : (p : Program) (m : View) (t : Table) (tree : Tree) (op : BinaryOperator) (v : Named) (z : ℤ) (r : Ref) → WithInt op v z ≡ simple_of tree → ((c : Context) → operation c op (read_variable v m.calls.frames) (IntRef z) ≡ Ret (Gave r)) → TakesNow p m t tree 3 r

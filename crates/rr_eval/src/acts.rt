@@ -202,6 +202,9 @@ impl Engine {
         match self.control {
             Control::Enter(here) => self.ask_call(prepared, space, here, stop),
             Control::Give(Answer::Gave(value)) => self.ask_given(prepared, space, value, stop),
+            Control::Send(callee, receiver, argument) => {
+                self.ask_sent(prepared, space, callee, receiver, argument, stop)
+            }
             _ => None,
         }
     }

@@ -16,6 +16,7 @@ ghost use Rattle.rr_eval.specs.Within.{reach, IsRequestReached};
 use crate::call::{Arguments, Call, Task};
 use crate::copying::shareable_copy;
 use crate::print::Served;
+use crate::ractor_method::lacks_ractor_methods;
 use crate::request::Request;
 use crate::serve::{serve, serve_field, serve_own};
 use crate::setting::set_constant;
@@ -66,7 +67,7 @@ fn serve_apart(
     }
 }
 
-/// Serves a call of a script that runs alone. Most receivers are objects of the script's own.
+/// Serves a call of a script that runs alone. Most receivers have no method of Ractor.
 #[inline(always)]
 fn serve_called_alone(
     alloc: Global,
@@ -85,10 +86,10 @@ fn serve_called_alone(
     ensures more { (e : ℕ × List Object) → Contains (published store.old) e → Contains (published store.new) e }
     ensures refused { IfErr result (λ f. IsRefusedBy (SpecialExceeds (special_of (context_of program.now) (asked_of space.old (Requests.Call call)) space.old) (context_of program.now) store.old space.old.limit (asked_of space.old (Requests.Call call)) space.old) f) }
 {
-    match call.receiver {
-        Ref::Local(_) => serve_own(alloc, space, store, program, methods, &call),
-        _ => serve_apart(alloc, space, store, program, methods, Request::Call(call)),
+    if lacks_ractor_methods(call.receiver) {
+        return serve_own(alloc, space, store, program, methods, &call);
     }
+    serve_apart(alloc, space, store, program, methods, Request::Call(call))
 }
 
 /// Serves a request of a script that runs alone. A refused growth leaves the objects as they were, beside new ones to which nothing

@@ -1,7 +1,7 @@
-//! Parts that read what an object holds: an instance variable of `self`, or an attribute of an object that a variable holds. They are
-//! evaluated without a frame.
+//! Parts that read what an object holds: an instance variable of `self`, an attribute of an object that a variable holds, a global
+//! variable, or a constant. They are evaluated without a frame.
 
-ghost use Rattle.std.specs.Prelude.{◌≡◌, ◌<◌, ◌≤◌, [], ◌∷◌, false, length, Option, IfSome};
+ghost use Rattle.std.specs.Prelude.{◌≡◌, ◌<◌, ◌≤◌, [], ◌∷◌, false, true, length, Option, IfSome};
 ghost use Rattle.rr_builtin.specs.Fields.{field_at};
 ghost use Rattle.rr_parser.specs.Grammar.Names.{is_splat};
 ghost use Rattle.rr_space.specs.Tables.{Below};
@@ -9,21 +9,26 @@ ghost use Rattle.rr_tree.specs.Tree.{empty, send, tree_at};
 ghost use Rattle.rr_eval.specs.declared.call.Callee.{Callee};
 ghost use Rattle.rr_eval.specs.declared.call.Target.{Target};
 ghost use Rattle.rr_eval.specs.Fields.{field_response};
+ghost use Rattle.rr_eval.specs.Globals.{globals};
+ghost use Rattle.rr_eval.specs.Owners.{is_main};
 ghost use Rattle.rr_eval.specs.Rules.{finish};
 ghost use Rattle.rr_eval.specs.Turns.{context_of};
 ghost use Rattle.rr_eval.specs.Usual.{GivesAtOnce, TakesNow};
 ghost use Rattle.rr_eval.specs.Views.{view_of};
 ghost use Rattle.rr_eval.specs.Within.{reach, IsReached, AreReached};
 
+use crate::constant::constant_of;
 use crate::engine::Engine;
 use crate::fields::read_field;
+use crate::globals::GLOBALS;
+use crate::owners::is_main;
 use crate::prepared::{Prepared, Work};
 use crate::problem::Response;
 use crate::simple_parts::SimplePart;
 use crate::usual::Quick;
 use rr_base::Sym;
 use rr_space::{Ref, Space};
-use rr_tree::{Node, NodeId};
+use rr_tree::{Node, NodeId, Path};
 
 /// What an object holds as an instance variable, where that can be read.
 #[inline(always)]
@@ -34,6 +39,22 @@ fn field_of(space: &Space, object: Ref, name: Sym) -> Option<Ref>
     match read_field(space, object, name) {
         Response::Gives(value) => Some(value),
         _ => None,
+    }
+}
+
+/// What a global variable holds, where the main ractor reads it and that can be read.
+#[inline(always)]
+fn global_of(space: &Space, name: Sym) -> Option<Ref>
+    ensures main { IfSome result (λ _. is_main space.now ≡ true) }
+    ensures is { IfSome result (λ v. field_response space.now (field_at space.now globals name.0) ≡ Response.Gives v) }
+    ensures within { (clusters : Option Below) → IfSome result (IsReached (reach (length space.now.slots) clusters)) }
+{
+    if !is_main(space) {
+        return None;
+    }
+    match field_of(space, GLOBALS, name) {
+        Some(value) => Some(value),
+        None => None,
     }
 }
 
@@ -102,6 +123,16 @@ impl Engine {
                 Some(value) => Some(Quick { value, steps: 2 }),
                 None => None,
             },
+            Some(&Node::Global(name)) => match global_of(space, name) {
+                Some(value) => Some(Quick { value, steps: 1 }),
+                None => None,
+            },
+            Some(&Node::Constant(Path::Plain(name))) => {
+                match constant_of(&prepared.program, space, name) {
+                    Some(value) => Some(Quick { value, steps: 1 }),
+                    None => None,
+                }
+            }
             _ => None,
         }
     }

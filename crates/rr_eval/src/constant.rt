@@ -1,6 +1,6 @@
 //! Constants, and the classes that they name.
 
-ghost use Rattle.std.specs.Prelude.{◌≡◌, ◌+◌, ◌*◌, ◌≤◌, ℕ, [], length, reverse, slice_index_or, position, nat_eq, Option, None, IfSome};
+ghost use Rattle.std.specs.Prelude.{◌≡◌, ◌+◌, ◌*◌, ◌≤◌, ℕ, [], length, reverse, slice_index_or, position, nat_eq, Option, None, IfSome, true, false};
 ghost use Rattle.rr_base.specs.ClassNames.{class_named};
 ghost use Rattle.rr_tree.specs.declared.class.Class.{Class};
 ghost use Rattle.rr_space.specs.Tables.{Table, Below};
@@ -10,8 +10,10 @@ ghost use Rattle.rr_eval.specs.Requests.{Course, asked_of};
 ghost use Rattle.rr_eval.specs.Constants.{own_class, constant_rule, set_response, unless_set, asked_constant, plain_constant, set_constant_rule};
 ghost use Rattle.rr_eval.specs.Frames.{below_of, base_of, Nested};
 ghost use Rattle.rr_eval.specs.Globals.{globals};
+ghost use Rattle.rr_eval.specs.Owners.{is_main};
 ghost use Rattle.rr_eval.specs.Rules.{rule};
 ghost use Rattle.rr_eval.specs.Turns.{context_of, IsNested, after_script, after_values, asking_with, continuing, remaining_with, size, sized};
+ghost use Rattle.rr_eval.specs.Usual.{GivesAtOnce};
 ghost use Rattle.rr_eval.specs.Views.{view_of};
 ghost use Rattle.rr_eval.specs.Within.{Reach, reach, AreReached, IsReached, IsAskedReached, IsRequestReached, IsResponseReached};
 
@@ -63,6 +65,39 @@ pub fn set_constant(space: &Space, name: Sym) -> Option<Response>
         },
         Round::Absent => None,
         Round::Moved => Some(Response::Fails(Problem::BuiltIn(BuiltInProblem::Moved))),
+    }
+}
+
+/// What the main ractor set a constant to; another ractor has set none.
+fn set_in_main(space: &Space, name: Sym) -> Option<Response>
+    ensures main { is_main space.now ≡ true → result ≡ set_response space.now (field_at space.now globals name.0) }
+    ensures other { is_main space.now ≡ false → result ≡ None }
+    ensures within { (clusters : Option Below) → IfSome result (IsResponseReached (reach (length space.now.slots) clusters)) }
+{
+    if is_main(space) {
+        set_constant(space, name)
+    } else {
+        None
+    }
+}
+
+/// The value of a constant without a path that is no class of the program, where it is at hand: it was set to it, or is a built-in class.
+pub fn constant_of(program: &Program, space: &Space, name: Sym) -> Option<Ref>
+    ensures is { IfSome result (GivesAtOnce program.now space.now (plain_constant (context_of program.now) (own_class program.now name.0) name)) }
+    ensures within { (clusters : Option Below) → IfSome result (IsReached (reach (length space.now.slots) clusters)) }
+{
+    if own_class(program, name).is_some() {
+        return None;
+    }
+    match set_in_main(space, name) {
+        Some(response) => match response {
+            Response::Gives(value) => Some(value),
+            _ => None,
+        },
+        None => match BuiltInClass::named(program.symbol_bytes(name)) {
+            Some(class) => Some(Ref::Class(class.id())),
+            None => None,
+        },
     }
 }
 

@@ -1,6 +1,8 @@
 //! The methods of Ractor, and those of a ractor.
 
-ghost use Rattle.std.specs.Prelude.{◌≡◌};
+ghost use Rattle.std.specs.Prelude.{◌≡◌, None, IsTrue};
+ghost use Rattle.rr_eval.specs.declared.call.Callee.{Callee};
+ghost use Rattle.rr_eval.specs.Context.{Context};
 ghost use Rattle.rr_eval.specs.RactorMethods.{passes_values, other_named, ractor_named, ractor_called, needs_channel, own_named, own_called, ractor_method};
 ghost use Rattle.rr_eval.specs.Turns.{context_of};
 
@@ -157,5 +159,24 @@ pub fn ractor_method(program: &Program, receiver: Ref, callee: Callee) -> Option
         Ref::Symbol(_) => None,
         Ref::Local(_) => None,
         Ref::Shared(_, _) => None,
+    }
+}
+
+/// Whether a receiver is one that no method of Ractor has: neither a class nor a ractor.
+#[tactic(auto, unfolding(crate::specs::RactorMethods::ractor_method))]
+#[inline(always)]
+pub fn lacks_ractor_methods(receiver: Ref) -> bool
+    ensures { IsTrue result → (c : Context) (callee : Callee) → ractor_method c receiver callee ≡ None }
+{
+    match receiver {
+        Ref::Class(_) => false,
+        Ref::Ractor(_) => false,
+        Ref::Nil => true,
+        Ref::False => true,
+        Ref::True => true,
+        Ref::Int(_) => true,
+        Ref::Symbol(_) => true,
+        Ref::Local(_) => true,
+        Ref::Shared(_, _) => true,
     }
 }

@@ -67,7 +67,7 @@ impl Engine {
 
     /// An operator on two values, where they are integers.
     #[inline(always)]
-    fn operate_integers(&mut self, op: BinaryOperator, left: Ref, right: Ref) -> bool
+    pub fn operate_integers(&mut self, op: BinaryOperator, left: Ref, right: Ref) -> bool
         requires nested { IsNested (view_of self.old) }
         ensures goes { IsTrue result → (p : Program) (t : Table) (h : Course) (n : ℕ) → after_script p (view_of self.old) t (operation (context_of p) op left right) h n ≡ remaining_with p (view_of self.new) t h n }
         ensures nested { IsNested (view_of self.new) }

@@ -10,10 +10,11 @@ ghost use Rattle.rr_builtin.specs.Acts.{Acts, IsRefAmong, Raises, Lacks};
 ghost use Rattle.rr_builtin.specs.Kinds.{is_shell_kind};
 ghost use Rattle.rr_builtin.specs.Methods.{method_named};
 ghost use Rattle.rr_eval.specs.Callees.{method_of};
+ghost use Rattle.rr_eval.specs.Context.{Context};
 ghost use Rattle.rr_eval.specs.Calls.{sent, call_reply};
+ghost use Rattle.rr_eval.specs.declared.call.Callee.{Callee as Called};
 ghost use Rattle.rr_eval.specs.declared.call.Task.{Task as Tasks};
 ghost use Rattle.rr_eval.specs.Requests.{arguments_of, asked_of};
-ghost use Rattle.rr_eval.specs.Prepared.{IsLocal};
 ghost use Rattle.rr_eval.specs.Published.{published};
 ghost use Rattle.rr_eval.specs.Runs.{piece_asked};
 ghost use Rattle.rr_eval.specs.Script.{Calls};
@@ -197,8 +198,7 @@ fn serve_call(
     serve_method(alloc, space, store, program, call, method)
 }
 
-/// Serves a call of a receiver that is an object of the space, which no method of Ractor has. A refused growth leaves the objects as
-/// they were.
+/// Serves a call of a receiver that no method of Ractor has. A refused growth leaves the objects as they were.
 #[inline(always)]
 pub fn serve_own(
     alloc: Global,
@@ -208,7 +208,7 @@ pub fn serve_own(
     methods: &Methods,
     call: &Call,
 ) -> Result<Served, Fault>
-    requires own { IsLocal call.now.receiver }
+    requires own { (c : Context) (callee : Called) → ractor_method c call.now.receiver callee ≡ None }
     requires methods { methods.now ≡ map (λ s. method_named s.items) program.now.symbols.items }
     requires read { IsReadWith space.old (published store.now) }
     requires reached { IsCallReached (reach (length space.old.slots) (Some (published store.now))) call.now }

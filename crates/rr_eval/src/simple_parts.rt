@@ -112,7 +112,7 @@ fn literal(program: &Program, node: Node) -> Option<Ref>
 #[inline(always)]
 fn is_reading(program: &Program, plain: &Vec<PlainMethod>, node: Node) -> bool {
     match node {
-        Node::Field(_) => true,
+        Node::Field(_) | Node::Global(_) | Node::Constant(Path::Plain(_)) => true,
         Node::Send {
             receiver,
             name,

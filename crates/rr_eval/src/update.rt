@@ -100,6 +100,10 @@ impl Engine {
                 push_within(&mut self.frames, Frame::Store(variable));
                 self.control = Control::Operate(op, target, value);
             }
+            Some(Place::Field(name)) => {
+                push_within(&mut self.frames, Frame::SetField(name));
+                self.control = Control::Operate(op, target, value);
+            }
             Some(place) => {
                 push_within(&mut self.frames, Frame::Put(place, self.held.len()));
                 self.control = Control::Operate(op, target, value);

@@ -78,7 +78,7 @@ pub struct Combining {
 }
 
 /// The receiver, and the index where there is one; nothing where there are more values.
-fn accessed(values: &[Ref], last: Ref) -> Option<(Ref, Option<Ref>)>
+pub fn accessed(values: &[Ref], last: Ref) -> Option<(Ref, Option<Ref>)>
     ensures are { IfSome result (λ r. values.now ++ last ∷ [] ≡ r.0 ∷ list_of r.1) }
     ensures more { result ≡ None → 2 < length (values.now ++ last ∷ []) }
     ensures within { (k : Reach) → All (IsReached k) values.now → IsReached k last → IfSome result (λ r. IsReached k r.0 × All (IsReached k) (list_of r.1)) }

@@ -99,7 +99,7 @@ pub fn awaited_part(here: NodeId, node: Node) -> Option<(Frame, NodeId)>
 
 /// The value of an operator on two values, where they are integers and it has one.
 #[inline(always)]
-fn operated(op: BinaryOperator, left: Ref, right: Ref) -> Option<Ref>
+pub fn operated(op: BinaryOperator, left: Ref, right: Ref) -> Option<Ref>
     ensures gives { IfSome result (λ v. (c : Context) → operation c op left right ≡ Ret (Answer.Gave v)) }
     ensures within { (k : Reach) → IfSome result (IsReached k) }
 {

@@ -22,10 +22,11 @@ ghost use Rattle.rr_eval.specs.Within.{Reach, reach, AreReached, IsReached};
 use crate::blocks::first_value;
 use crate::call::{Callee, Passing, Target};
 use crate::engine::{Engine, push_within};
-use crate::frame::{Control, Frame, standing};
+use crate::frame::{Control, Frame, first_standing, standing};
 use crate::nodes::is_splat;
 use crate::prepared::Prepared;
 use crate::problem::Answer;
+use crate::updating::{Place, Update, Updating, accessed};
 use rr_base::Sym;
 use rr_space::{Ref, Space};
 use rr_tree::NodeId;
@@ -89,6 +90,45 @@ impl Engine {
         }
     }
 
+    /// Reads what is assigned to, where there is room for one more value: the receiver, and the index where there is one, are the values
+    /// that stand for a frame and one more.
+    fn finish_update(
+        &mut self,
+        getter: Callee,
+        setter: Callee,
+        how: Update,
+        part: NodeId,
+        frame: Frame,
+        last: Ref,
+    ) -> bool
+        requires room { length self.old.frames.items < vec_capacity self.old.frames }
+        requires base { base_of frame ≤ length self.old.held.items }
+        requires nested { Nested (reverse self.old.frames.items) (below_of frame self.old.held.items) }
+        ensures goes { IsTrue result → (p : Program) (t : Table) (h : Course) (n : ℕ) → after_values p (view_of self.old) t frame (finish (context_of p) (Aim.Update getter setter how part) (stand_of frame self.old.held.items ++ last ∷ [])) h n ≡ remaining_with p (view_of self.new) t h n }
+        ensures nested { IsTrue result → IsNested (view_of self.new) }
+        ensures within { (k : Reach) → AreReached k (view_of self.old) → IsReached k last → AreReached k (view_of self.new) }
+        ensures left { self.new.left ≡ self.old.left }
+        ensures size { IsTrue result → size (view_of self.new) ≤ 3 * length self.old.frames.items + 4 }
+        ensures same { IsFalse result → self.new ≡ self.old }
+    {
+        if self.held.len() >= self.held.capacity() {
+            return false;
+        }
+        let Some((receiver, argument)) = accessed(standing(&self.held, frame), last) else {
+            return false;
+        };
+        let base = first_standing(&self.held, frame);
+        self.held.push_reserved(last);
+        let reading = Frame::Read(Updating {
+            place: Place::Sent(setter),
+            how,
+            value: part,
+            base,
+        });
+        self.send_over(reading, getter, receiver, argument);
+        true
+    }
+
     /// Does what is done with the values that stand for a frame and with one more, where that is usual: it answers whether it was done.
     #[inline(always)]
     fn finish_often(
@@ -115,6 +155,9 @@ impl Engine {
             }
             Target::Own(name, None) => self.finish_own(prepared, space, name, frame, last),
             Target::Yield => self.begin_yield(&prepared.program, space, frame, Some(last)),
+            Target::Update(getter, setter, how, part) => {
+                self.finish_update(getter, setter, how, part, frame, last)
+            }
             _ => false,
         }
     }
@@ -255,6 +298,35 @@ impl Engine {
         }
     }
 
+    /// Gives the topmost frame, behind whose part there is one more, its value, where that is usual: it answers whether it was done.
+    #[inline(always)]
+    fn resume_one(
+        &mut self,
+        prepared: &Prepared,
+        space: &Space,
+        target: Target,
+        end: NodeId,
+        base: usize,
+        value: Ref,
+    ) -> bool
+        requires control { self.old.control ≡ Control.Give (Answer.Gave value) }
+        requires top { IsTop self.old.frames.items (Waiting.Argument target end 1 base) }
+        requires nested { IsNested (view_of self.old) }
+        ensures goes { (h : Course) → remaining prepared.now.program (view_of self.old) space.now h ≡ remaining prepared.now.program (view_of self.new) space.now h }
+        ensures nested { IsNested (view_of self.new) }
+        ensures within { (clusters : Option Below) → AreReached (reach (length space.now.slots) clusters) (view_of self.old) → AreReached (reach (length space.now.slots) clusters) (view_of self.new) }
+        ensures left { self.new.left ≡ self.old.left }
+        ensures kept { size (view_of self.new) ≤ size (view_of self.old) }
+        ensures falls { IsTrue result → size (view_of self.new) < size (view_of self.old) }
+    {
+        // No splat stands between the brackets of an index.
+        if is_splat(&prepared.program, end.saturating_sub(1)) {
+            return false;
+        }
+        let frame = Frame::Argument(target, end, 1, base);
+        self.resume_next(prepared, space, target, end, 1, base, frame, value)
+    }
+
     /// Gives the topmost frame a value, where it is such a frame and that is usual: it answers whether it was done.
     #[cold]
     #[inline(never)]
@@ -271,10 +343,13 @@ impl Engine {
             return false;
         };
         match self.frames.last() {
-            Some(&Frame::Argument(target, end, count, base)) => {
-                let frame = Frame::Argument(target, end, count, base);
-                self.resume_listed(prepared, space, frame, value)
-            }
+            Some(&Frame::Argument(target, end, count, base)) => match count {
+                1 => self.resume_one(prepared, space, target, end, base, value),
+                _ => {
+                    let frame = Frame::Argument(target, end, count, base);
+                    self.resume_listed(prepared, space, frame, value)
+                }
+            },
             Some(&Frame::Receiver(target, end, count, base)) => {
                 let frame = Frame::Receiver(target, end, count, base);
                 self.resume_listed(prepared, space, frame, value)

@@ -459,6 +459,7 @@ impl Engine {
                     && self.frames.len() < self.frames.capacity()
                     && self.visit_often(prepared, space, here, stop)
             }
+            Control::Send(_, _, _) => self.operate_sent(stop),
             _ => false,
         }
     }

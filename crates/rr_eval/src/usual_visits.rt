@@ -419,6 +419,9 @@ impl Engine {
             &Node::SetField(name, value) => {
                 self.visit_set_field(prepared, space, here, name, value, stop);
             }
+            &Node::OperatorAssign(op, target, value) => {
+                self.update_usual(prepared, space, here, op, target, value, stop);
+            }
             _ => return self.visit_waiting(prepared, space, here, node, stop),
         }
         true

@@ -5,7 +5,6 @@ use Rattle.rr_eval.specs.Requests.{arguments_of}
 use Rattle.rr_eval.specs.Serves.{IsReplied, IsRefused}
 use Rattle.rr_eval.specs.Sharing.{called_reply}
 use Rattle.rr_eval.specs.Turns.{context_of}
-use Rattle.rr_eval.proofs.Owned.{own_method}
 use Rattle.rr_eval.proofs.serve.serve_own.Goals as goal
 
 pub returns-in-Ok-clause-replied : goal.returns-in-Ok-clause-replied
@@ -13,11 +12,11 @@ returns-in-Ok-clause-replied c =
     let own = context_of c.args.program.now in
     let call = c.args.call.now in
     let t = c.args.space.now in
-    subst (λ m. IsReplied (published c.args.store.now) (called_reply own m call.receiver call.callee (arguments_of call.arguments) t) t c.in-Ok.response c.serve_call.new.space) (sym (own_method own call.receiver call.callee c.requires.own)) c.in-Ok.ensures.replied
+    subst (λ m. IsReplied (published c.args.store.now) (called_reply own m call.receiver call.callee (arguments_of call.arguments) t) t c.in-Ok.response c.serve_call.new.space) (sym (c.requires.own own call.callee)) c.in-Ok.ensures.replied
 
 pub returns-in-Err-clause-refused : goal.returns-in-Err-clause-refused
 returns-in-Err-clause-refused c =
     let own = context_of c.args.program.now in
     let call = c.args.call.now in
     let t = c.args.space.now in
-    subst (λ m. IsRefused (called_reply own m call.receiver call.callee (arguments_of call.arguments) t) t c.in-Err.fault) (sym (own_method own call.receiver call.callee c.requires.own)) c.in-Err.ensures.refused
+    subst (λ m. IsRefused (called_reply own m call.receiver call.callee (arguments_of call.arguments) t) t c.in-Err.fault) (sym (c.requires.own own call.callee)) c.in-Err.ensures.refused

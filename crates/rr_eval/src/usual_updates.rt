@@ -1,0 +1,281 @@
+//! Assignments with an operator, as they begin in a usual way; where `x` is a local variable or an instance variable of `self`, `x += y` goes
+//! on at once.
+
+ghost use Rattle.std.specs.Prelude.{◌≡◌, ◌+◌, ◌*◌, ◌<◌, ◌≤◌, ℕ, [], length, vec_capacity, Option, Some, IfSome, IsTrue, IsFalse};
+ghost use Rattle.rr_space.specs.Tables.{Below, Table};
+ghost use Rattle.rr_tree.specs.Tree.{binary, tree_at};
+ghost use Rattle.rr_tree.specs.declared.program.Program.{Program};
+ghost use Rattle.rr_tree.specs.declared.node.Node.{Node};
+ghost use Rattle.rr_eval.specs.declared.frame.Control.{Control as Controls};
+ghost use Rattle.rr_eval.specs.declared.frame.Frame.{Frame as Frames};
+ghost use Rattle.rr_eval.specs.Frames.{resumed, IsNew};
+ghost use Rattle.rr_eval.specs.Nodes.{evaluated_tree};
+ghost use Rattle.rr_eval.specs.Requests.{Course};
+ghost use Rattle.rr_eval.specs.Rules.{rule};
+ghost use Rattle.rr_eval.specs.Script.{Go, World};
+ghost use Rattle.rr_eval.specs.Turns.{context_of, code_of, IsNested, after_script, remaining, remaining_with, power, size};
+ghost use Rattle.rr_eval.specs.Usual.{TakesNow};
+ghost use Rattle.rr_eval.specs.Views.{view_of};
+ghost use Rattle.rr_eval.specs.Within.{Reach, reach, IsReached, IsFrameReached, AreReached};
+
+use crate::call::Callee;
+use crate::call_stack::Variable;
+use crate::engine::{Engine, push_within};
+use crate::frame::{Control, Frame};
+use crate::prepared::Prepared;
+use crate::usual::{Quick, operated};
+use rr_space::Space;
+use rr_tree::{BinaryOperator, Node, NodeId};
+
+impl Engine {
+    /// The value of an operator on two parts that need no frame and are integers, where the steps do not stop before what follows.
+    #[inline(always)]
+    fn combined(
+        &self,
+        prepared: &Prepared,
+        space: &Space,
+        op: BinaryOperator,
+        a: NodeId,
+        b: NodeId,
+        stop: u64,
+    ) -> Option<Quick>
+        requires some { stop < self.now.left }
+        ensures takes { IfSome result (λ q. TakesNow prepared.now.program (view_of self.now) space.now (binary op (tree_at prepared.now.program.nodes.items a) (tree_at prepared.now.program.nodes.items b)) q.steps q.value) }
+        ensures few { IfSome result (λ q. q.steps ≤ 7) }
+        ensures enough { IfSome result (λ q. stop + q.steps < self.now.left) }
+        ensures within { (clusters : Option Below) → AreReached (reach (length space.now.slots) clusters) (view_of self.now) → IfSome result (λ q. IsReached (reach (length space.now.slots) clusters) q.value) }
+    {
+        if self.left - stop <= 7 {
+            return None;
+        }
+        let Some(left) = self.quick(prepared, space, a) else {
+            return None;
+        };
+        let Some(right) = self.quick(prepared, space, b) else {
+            return None;
+        };
+        match operated(op, left.value, right.value) {
+            Some(value) => Some(Quick {
+                value,
+                steps: left.steps + right.steps + 1,
+            }),
+            None => None,
+        }
+    }
+
+    /// Puts a frame over an operator, which is evaluated next.
+    #[tactic(auto, unfolding(crate::specs::Within::AreReached))]
+    #[inline(always)]
+    fn operate_above(&mut self, frame: Frame, op: BinaryOperator, a: NodeId, b: NodeId)
+        requires room { length self.old.frames.items < vec_capacity self.old.frames }
+        requires new { IsNew frame (length self.old.held.items) }
+        requires nested { IsNested (view_of self.old) }
+        ensures goes { (p : Program) (t : Table) (h : Course) (n : ℕ) → after_script p (view_of self.old) t (Go (binary op (tree_at p.nodes.items a) (tree_at p.nodes.items b)) (resumed (code_of p h.world) frame [])) h n ≡ remaining_with p (view_of self.new) t h n }
+        ensures control { self.new.control ≡ Controls.Operate op a b }
+        ensures nested { IsNested (view_of self.new) }
+        ensures within { (k : Reach) → AreReached k (view_of self.old) → IsFrameReached k frame → AreReached k (view_of self.new) }
+        ensures left { self.new.left ≡ self.old.left }
+        ensures size { size (view_of self.new) ≤ 3 * length self.old.frames.items + 4 }
+    {
+        self.control = Control::Operate(op, a, b);
+        push_within(&mut self.frames, frame);
+    }
+
+    /// Goes on with an operator that comes next, where its left operand needs no frame.
+    #[inline(always)]
+    fn operate_first(
+        &mut self,
+        prepared: &Prepared,
+        space: &Space,
+        op: BinaryOperator,
+        a: NodeId,
+        b: NodeId,
+        stop: u64,
+    )
+        requires control { self.old.control ≡ Controls.Operate op a b }
+        requires within { stop ≤ self.old.left }
+        requires nested { IsNested (view_of self.old) }
+        ensures goes { (h : Course) → remaining prepared.now.program (view_of self.old) space.now h ≡ remaining prepared.now.program (view_of self.new) space.now h }
+        ensures nested { IsNested (view_of self.new) }
+        ensures within { (clusters : Option Below) → AreReached (reach (length space.now.slots) clusters) (view_of self.old) → AreReached (reach (length space.now.slots) clusters) (view_of self.new) }
+        ensures left { stop ≤ self.new.left }
+        ensures kept { self.new.left ≤ self.old.left }
+        ensures size { size (view_of self.new) ≤ 3 * length self.old.frames.items + 4 }
+    {
+        if self.left > stop
+            && self.frames.len() < self.frames.capacity()
+            && let Some(found) = self.quick_before(prepared, space, a, stop)
+        {
+            self.left -= found.steps + 1;
+            self.operate_left(prepared, space, op, found.value, b, stop);
+        }
+    }
+
+    /// Gives a local variable the value of an operator on it and another part, where these need no frame and are integers: it answers
+    /// whether it did.
+    #[inline(always)]
+    fn update_variable(
+        &mut self,
+        prepared: &Prepared,
+        space: &Space,
+        here: NodeId,
+        variable: Variable,
+        op: BinaryOperator,
+        a: NodeId,
+        b: NodeId,
+        stop: u64,
+    ) -> bool
+        requires control { self.old.control ≡ Controls.Enter here }
+        requires script { (w : World) → rule (context_of prepared.now.program) (tree_at prepared.now.program.nodes.items here) ≡ Go (binary op (tree_at prepared.now.program.nodes.items a) (tree_at prepared.now.program.nodes.items b)) (resumed (code_of prepared.now.program w) (Frames.Store variable) []) }
+        requires some { stop < self.old.left }
+        requires nested { IsNested (view_of self.old) }
+        ensures goes { IsTrue result → (h : Course) → remaining prepared.now.program (view_of self.old) space.now h ≡ remaining prepared.now.program (view_of self.new) space.now h }
+        ensures nested { IsNested (view_of self.new) }
+        ensures within { (clusters : Option Below) → AreReached (reach (length space.now.slots) clusters) (view_of self.old) → AreReached (reach (length space.now.slots) clusters) (view_of self.new) }
+        ensures left { stop ≤ self.new.left }
+        ensures kept { self.new.left ≤ self.old.left }
+        ensures spends { IsTrue result → self.new.left < self.old.left }
+        ensures size { IsTrue result → size (view_of self.new) ≤ 3 * length self.old.frames.items + 4 }
+        ensures same { IsFalse result → self.new ≡ self.old }
+    {
+        match self.combined(prepared, space, op, a, b, stop) {
+            Some(found) => {
+                self.left -= found.steps + 1;
+                self.store(variable, found.value);
+                true
+            }
+            None => false,
+        }
+    }
+
+    /// Evaluates an assignment with an operator, whose value a frame gets.
+    #[inline(always)]
+    fn update_under(
+        &mut self,
+        prepared: &Prepared,
+        space: &Space,
+        here: NodeId,
+        frame: Frame,
+        op: BinaryOperator,
+        a: NodeId,
+        b: NodeId,
+        stop: u64,
+    )
+        requires control { self.old.control ≡ Controls.Enter here }
+        requires script { (w : World) → rule (context_of prepared.now.program) (tree_at prepared.now.program.nodes.items here) ≡ Go (binary op (tree_at prepared.now.program.nodes.items a) (tree_at prepared.now.program.nodes.items b)) (resumed (code_of prepared.now.program w) frame []) }
+        requires new { IsNew frame (length self.old.held.items) }
+        requires some { stop < self.old.left }
+        requires room { length self.old.frames.items < vec_capacity self.old.frames }
+        requires nested { IsNested (view_of self.old) }
+        ensures goes { (h : Course) → remaining prepared.now.program (view_of self.old) space.now h ≡ remaining prepared.now.program (view_of self.new) space.now h }
+        ensures nested { IsNested (view_of self.new) }
+        ensures within { (clusters : Option Below) → AreReached (reach (length space.now.slots) clusters) (view_of self.old) → IsFrameReached (reach (length space.now.slots) clusters) frame → AreReached (reach (length space.now.slots) clusters) (view_of self.new) }
+        ensures left { stop ≤ self.new.left }
+        ensures spends { self.new.left < self.old.left }
+        ensures falls { power (view_of self.new) + self.old.left ≤ power (view_of self.old) + self.new.left }
+    {
+        self.operate_above(frame, op, a, b);
+        self.left -= 1;
+        self.operate_first(prepared, space, op, a, b, stop);
+    }
+
+    /// Begins an assignment with an operator.
+    fn update_any(
+        &mut self,
+        prepared: &Prepared,
+        here: NodeId,
+        op: BinaryOperator,
+        target: NodeId,
+        value: NodeId,
+        stop: u64,
+    )
+        requires control { self.old.control ≡ Controls.Enter here }
+        requires tree { tree_at prepared.now.program.nodes.items here ≡ evaluated_tree prepared.now.program.nodes.items (Node.OperatorAssign op target value) }
+        requires some { stop < self.old.left }
+        requires room { length self.old.frames.items < vec_capacity self.old.frames }
+        requires nested { IsNested (view_of self.old) }
+        ensures goes { (t : Table) (h : Course) → remaining prepared.now.program (view_of self.old) t h ≡ remaining prepared.now.program (view_of self.new) t h }
+        ensures nested { IsNested (view_of self.new) }
+        ensures within { (k : Reach) → AreReached k (view_of self.old) → AreReached k (view_of self.new) }
+        ensures left { stop ≤ self.new.left }
+        ensures spends { self.new.left < self.old.left }
+        ensures falls { power (view_of self.new) + self.old.left ≤ power (view_of self.old) + self.new.left }
+    {
+        self.open_operator(&prepared.program, op, target, value);
+        self.left -= 1;
+    }
+
+    /// Evaluates an assignment with an operator.
+    #[cold]
+    #[inline(never)]
+    pub fn update_usual(
+        &mut self,
+        prepared: &Prepared,
+        space: &Space,
+        here: NodeId,
+        op: BinaryOperator,
+        target: NodeId,
+        value: NodeId,
+        stop: u64,
+    )
+        requires control { self.old.control ≡ Controls.Enter here }
+        requires tree { tree_at prepared.now.program.nodes.items here ≡ evaluated_tree prepared.now.program.nodes.items (Node.OperatorAssign op target value) }
+        requires some { stop < self.old.left }
+        requires room { length self.old.frames.items < vec_capacity self.old.frames }
+        requires nested { IsNested (view_of self.old) }
+        ensures goes { (h : Course) → remaining prepared.now.program (view_of self.old) space.now h ≡ remaining prepared.now.program (view_of self.new) space.now h }
+        ensures nested { IsNested (view_of self.new) }
+        ensures within { (clusters : Option Below) → AreReached (reach (length space.now.slots) clusters) (view_of self.old) → AreReached (reach (length space.now.slots) clusters) (view_of self.new) }
+        ensures left { stop ≤ self.new.left }
+        ensures spends { self.new.left < self.old.left }
+        ensures falls { power (view_of self.new) + self.old.left ≤ power (view_of self.old) + self.new.left }
+    {
+        match prepared.node(target) {
+            Some(&Node::Local { depth, slot, .. }) => {
+                let variable = Variable { depth, slot };
+                if !self.update_variable(prepared, space, here, variable, op, target, value, stop) {
+                    let frame = Frame::Store(variable);
+                    self.update_under(prepared, space, here, frame, op, target, value, stop);
+                }
+            }
+            Some(&Node::Field(name)) => {
+                let frame = Frame::SetField(name);
+                self.update_under(prepared, space, here, frame, op, target, value, stop);
+            }
+            _ => self.update_any(prepared, here, op, target, value, stop),
+        }
+    }
+
+    /// Does an operator that comes next as a call, where its operands are integers: it answers whether it did.
+    #[cold]
+    #[inline(never)]
+    pub fn operate_sent(&mut self, stop: u64) -> bool
+        requires within { stop ≤ self.old.left }
+        requires nested { IsNested (view_of self.old) }
+        ensures goes { (p : Program) (t : Table) (h : Course) → remaining p (view_of self.old) t h ≡ remaining p (view_of self.new) t h }
+        ensures nested { IsNested (view_of self.new) }
+        ensures within { (k : Reach) → AreReached k (view_of self.old) → AreReached k (view_of self.new) }
+        ensures left { stop ≤ self.new.left }
+        ensures kept { self.new.left ≤ self.old.left }
+        ensures spends { IsTrue result → self.new.left < self.old.left }
+        ensures falls { power (view_of self.new) + self.old.left ≤ power (view_of self.old) + self.new.left }
+    {
+        let Control::Send(callee, left, argument) = self.control else {
+            return false;
+        };
+        let Callee::Operator(op) = callee else {
+            return false;
+        };
+        let Some(right) = argument else {
+            return false;
+        };
+        if self.left <= stop {
+            return false;
+        }
+        if !self.operate_integers(op, left, right) {
+            return false;
+        }
+        self.left -= 1;
+        true
+    }
+}
