@@ -94,4 +94,6 @@ mod usual_objects;
 #[cfg(test)]
 mod usual_requests;
 #[cfg(test)]
+mod usual_updates;
+#[cfg(test)]
 mod writers;
