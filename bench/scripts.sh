@@ -34,5 +34,10 @@ script("objects", "class Pair\n  attr_reader :left\n  def initialize(left, right
 script("chained", "class Link\n  attr_reader :step\n  def initialize(step)\n    @step = step\n  end\n  def same\n    self\n  end\n  def add(a, b)\n    a + b\n  end\nend\nl = Link.new(1)\ni = 0\ns = 0\nwhile i < 300000\n  s = l.same.add(s, l.same.step)\n  i = i + 1\nend\nputs s\n")
 script("guarded", "s = 0\ni = 0\nwhile i < 1000000\n  begin\n    s = s + i\n  rescue => e\n    s = 0\n  end\n  i = i + 1\nend\nputs s\n")
 script("raised", "s = 0\ni = 0\nwhile i < 100000\n  begin\n    raise ArgumentError, \"no\" if i % 2 == 0\n    s = s + 1\n  rescue ArgumentError => e\n    s = s + e.message.size\n  end\n  i = i + 1\nend\nputs s\n")
+script("updates", "i = 0\ns = 0\nwhile i < 1000000\n  s += i\n  i += 1\nend\nputs s\n")
+script("counters", "class Counter\n  def initialize\n    @count = 0\n  end\n  def run(n)\n    i = 0\n    while i < n\n      @count += i\n      i += 1\n    end\n    @count\n  end\nend\nputs Counter.new.run(300000)\n")
+script("tallies", "h = {a: 0, b: 0}\na = [0, 0]\ni = 0\nwhile i < 300000\n  h[:a] += 1\n  a[1] += i\n  i += 1\nend\nputs h[:a] + a[1]\n")
+script("constants", "LIMIT = 1000000\nSTEP = 1\ni = 0\nwhile i < LIMIT\n  i = i + STEP\nend\nputs i\n")
+script("equal", "t = :a\ns = 0\ni = 0\nwhile i < 500000\n  s = s + 1 if t == :a\n  i = i + 1\nend\nputs s\n")
 script("breaks", "s = 0\n20000.times { |i| 50.times { |j| break if j > 9\n s = s + i * j } }\nputs s\n")
 PY
