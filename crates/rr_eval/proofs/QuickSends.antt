@@ -16,6 +16,7 @@ use Rattle.rr_base.specs.declared.name.Sym.{Sym}
 use Rattle.rr_tree.specs.declared.program.Program.{Program}
 use Rattle.rr_eval.specs.declared.call.Callee.{Callee}
 use Rattle.rr_eval.specs.declared.call.Callee.TheVariants.{Name, SetIndex}
+use Rattle.rr_eval.specs.declared.call.Target.{Target}
 use Rattle.rr_eval.specs.declared.call.Target.TheVariants.{Call}
 use Rattle.rr_eval.specs.declared.frame.Control.TheVariants.{Enter}
 use Rattle.rr_eval.specs.declared.frame.Frame.TheVariants.{Argument}
@@ -63,29 +64,29 @@ holds_behind m n ones v pushed is = record {
 }
 
 -- A receiver is evaluated before the one argument.
-pub pair_first : (p : Program) (m : View) (t : Table) (here base receiver argument i : ℕ) (v : Ref) (held : List Ref) (callee : Callee) (h : Course) → m.control ≡ Enter here
-    → rule (context_of p) (tree_at p.nodes.items here) ≡ values (tree_at p.nodes.items receiver ∷ tree_at p.nodes.items argument ∷ []) [] (finish (context_of p) (Call callee)) → TakesNow p m t (tree_at p.nodes.items receiver) i v → base ≡ length m.held → held ≡ m.held ++ v ∷ [] → i < m.left
-    → remaining p m t h ≡ after_values p (record m { held = held }) t (Argument (Call callee) 0 0 base) (values (tree_at p.nodes.items argument ∷ []) (drop base held) (finish (context_of p) (Call callee))) h (m.left - (i + 1))
-pair_first p m t here base receiver argument i v held callee h at script takes all pushed less =
+pub pair_first : (p : Program) (m : View) (t : Table) (here base receiver argument i : ℕ) (v : Ref) (held : List Ref) (target : Target) (h : Course) → m.control ≡ Enter here
+    → rule (context_of p) (tree_at p.nodes.items here) ≡ values (tree_at p.nodes.items receiver ∷ tree_at p.nodes.items argument ∷ []) [] (finish (context_of p) target) → TakesNow p m t (tree_at p.nodes.items receiver) i v → base ≡ length m.held → held ≡ m.held ++ v ∷ [] → i < m.left
+    → remaining p m t h ≡ after_values p (record m { held = held }) t (Argument target 0 0 base) (values (tree_at p.nodes.items argument ∷ []) (drop base held) (finish (context_of p) target)) h (m.left - (i + 1))
+pair_first p m t here base receiver argument i v held target h at script takes all pushed less =
     let own = context_of p in
     let ns = p.nodes.items in
     let n = record m { held = held } in
-    let next = λ (l : List Ref). values (tree_at ns argument ∷ []) l (finish own (Call callee)) in
+    let next = λ (l : List Ref). values (tree_at ns argument ∷ []) l (finish own target) in
     let comes : ComesTo p m t (rule own (tree_at ns here)) i (next (v ∷ [])) = λ g k.
     ap (λ r. runs_in (code_of p g.world) r (state_of p m t g) (i + k)) script ∙ part_comes p m t (tree_at ns receiver) i v (on_value (λ u. next (u ∷ []))) takes g k in
     let one : v ∷ [] ≡ drop base held = sym (ap (drop base) pushed ∙ ap (λ b. drop b (m.held ++ v ∷ [])) all ∙ drop-append_seam m.held (v ∷ [])) in
-    held_comes p m n t here base i 0 (Call callee) (next (v ∷ [])) h at all (holds_push m held v pushed) comes less
-    ∙ ap (λ l. after_values p n t (Argument (Call callee) 0 0 base) (next l) h (m.left - (i + 1))) one
+    held_comes p m n t here base i 0 target (next (v ∷ [])) h at all (holds_push m held v pushed) comes less
+    ∙ ap (λ l. after_values p n t (Argument target 0 0 base) (next l) h (m.left - (i + 1))) one
 
 -- the last part of a call is evaluated, over those that are held
-pub last_comes : (p : Program) (n : View) (t : Table) (base part steps j : ℕ) (w : Ref) (callee : Callee) (h : Course) → TakesNow p n t (tree_at p.nodes.items part) j w → steps + j < n.left
-    → after_values p n t (Argument (Call callee) 0 0 base) (values (tree_at p.nodes.items part ∷ []) (drop base n.held) (finish (context_of p) (Call callee))) h (n.left - (steps + 1))
-    ≡ after_values p n t (Argument (Call callee) 0 0 base) (finish (context_of p) (Call callee) (drop base n.held ++ w ∷ [])) h (n.left - (steps + j + 1))
-last_comes p n t base part steps j w callee h takes less =
+pub last_comes : (p : Program) (n : View) (t : Table) (base part steps j : ℕ) (w : Ref) (target : Target) (h : Course) → TakesNow p n t (tree_at p.nodes.items part) j w → steps + j < n.left
+    → after_values p n t (Argument target 0 0 base) (values (tree_at p.nodes.items part ∷ []) (drop base n.held) (finish (context_of p) target)) h (n.left - (steps + 1))
+    ≡ after_values p n t (Argument target 0 0 base) (finish (context_of p) target (drop base n.held ++ w ∷ [])) h (n.left - (steps + j + 1))
+last_comes p n t base part steps j w target h takes less =
     let k = n.left - (steps + j + 1) in
     let sum : n.left - (steps + 1) ≡ j + k = omega (arith, less) in
-    let next = λ (u : Ref). finish (context_of p) (Call callee) (drop base n.held ++ u ∷ []) in
-    ap (λ i. after_values p n t (Argument (Call callee) 0 0 base) (Go (tree_at p.nodes.items part) (on_value next)) h i) sum
+    let next = λ (u : Ref). finish (context_of p) target (drop base n.held ++ u ∷ []) in
+    ap (λ i. after_values p n t (Argument target 0 0 base) (Go (tree_at p.nodes.items part) (on_value next)) h i) sum
     ∙ ap (unwind (code_of p h.world) (reverse n.frames) (take base n.held)) (part_comes p n t (tree_at p.nodes.items part) j w (on_value next) takes h k)
 
 -- A receiver is evaluated before the arguments.

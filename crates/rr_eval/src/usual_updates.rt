@@ -1,17 +1,20 @@
 //! Assignments with an operator, as they begin in a usual way; where `x` is a local variable or an instance variable of `self`, `x += y` goes
 //! on at once.
 
-ghost use Rattle.std.specs.Prelude.{◌≡◌, ◌+◌, ◌*◌, ◌<◌, ◌≤◌, ℕ, [], length, vec_capacity, Option, Some, IfSome, IsTrue, IsFalse};
+ghost use Rattle.std.specs.Prelude.{◌≡◌, ◌+◌, ◌*◌, ◌<◌, ◌≤◌, ℕ, [], ◌∷◌, length, vec_capacity, Option, Some, IfSome, IsTrue, IsFalse};
 ghost use Rattle.rr_space.specs.Tables.{Below, Table};
 ghost use Rattle.rr_tree.specs.Tree.{binary, tree_at};
 ghost use Rattle.rr_tree.specs.declared.program.Program.{Program};
 ghost use Rattle.rr_tree.specs.declared.node.Node.{Node};
+ghost use Rattle.rr_eval.specs.declared.call.Callee.{Callee as Called};
+ghost use Rattle.rr_eval.specs.declared.call.Target.{Target};
 ghost use Rattle.rr_eval.specs.declared.frame.Control.{Control as Controls};
 ghost use Rattle.rr_eval.specs.declared.frame.Frame.{Frame as Frames};
+ghost use Rattle.rr_eval.specs.declared.updating.Update.{Update as Updates};
 ghost use Rattle.rr_eval.specs.Frames.{resumed, IsNew};
 ghost use Rattle.rr_eval.specs.Nodes.{evaluated_tree};
 ghost use Rattle.rr_eval.specs.Requests.{Course};
-ghost use Rattle.rr_eval.specs.Rules.{rule};
+ghost use Rattle.rr_eval.specs.Rules.{rule, values, finish};
 ghost use Rattle.rr_eval.specs.Script.{Go, World};
 ghost use Rattle.rr_eval.specs.Turns.{context_of, code_of, IsNested, after_script, remaining, remaining_with, power, size};
 ghost use Rattle.rr_eval.specs.Usual.{TakesNow};
@@ -23,6 +26,7 @@ use crate::call_stack::Variable;
 use crate::engine::{Engine, push_within};
 use crate::frame::{Control, Frame};
 use crate::prepared::Prepared;
+use crate::updating::{Place, Update, Updating};
 use crate::usual::{Quick, operated};
 use rr_space::Space;
 use rr_tree::{BinaryOperator, Node, NodeId};
@@ -205,6 +209,57 @@ impl Engine {
         self.left -= 1;
     }
 
+    /// Reads an element that an operator assigns to, where its receiver and its index need no frame: it answers whether it does.
+    #[inline(always)]
+    fn update_element(
+        &mut self,
+        prepared: &Prepared,
+        space: &Space,
+        here: NodeId,
+        op: BinaryOperator,
+        receiver: NodeId,
+        index: NodeId,
+        part: NodeId,
+        stop: u64,
+    ) -> bool
+        requires control { self.old.control ≡ Controls.Enter here }
+        requires script { rule (context_of prepared.now.program) (tree_at prepared.now.program.nodes.items here) ≡ values (tree_at prepared.now.program.nodes.items receiver ∷ tree_at prepared.now.program.nodes.items index ∷ []) [] (finish (context_of prepared.now.program) (Target.Update Called.Index Called.SetIndex (Updates.Combine (Called.Operator op)) part)) }
+        requires some { stop < self.old.left }
+        requires room { length self.old.frames.items < vec_capacity self.old.frames }
+        requires nested { IsNested (view_of self.old) }
+        ensures goes { IsTrue result → (h : Course) → remaining prepared.now.program (view_of self.old) space.now h ≡ remaining prepared.now.program (view_of self.new) space.now h }
+        ensures nested { IsNested (view_of self.new) }
+        ensures within { (clusters : Option Below) → AreReached (reach (length space.now.slots) clusters) (view_of self.old) → AreReached (reach (length space.now.slots) clusters) (view_of self.new) }
+        ensures left { stop ≤ self.new.left }
+        ensures kept { self.new.left ≤ self.old.left }
+        ensures spends { IsTrue result → self.new.left < self.old.left }
+        ensures size { IsTrue result → size (view_of self.new) ≤ 3 * length self.old.frames.items + 4 }
+        ensures same { IsFalse result → self.new ≡ self.old }
+    {
+        if self.held.capacity().saturating_sub(self.held.len()) < 2 {
+            return false;
+        }
+        let Some(found) = self.quick_before(prepared, space, receiver, stop) else {
+            return false;
+        };
+        let before = self.steps_together(stop, found.steps);
+        let Some(last) = self.quick_before(prepared, space, index, before) else {
+            return false;
+        };
+        let base = self.held.len();
+        self.held.push_reserved(found.value);
+        self.held.push_reserved(last.value);
+        let reading = Frame::Read(Updating {
+            place: Place::Sent(Callee::SetIndex),
+            how: Update::Combine(Callee::Operator(op)),
+            value: part,
+            base,
+        });
+        self.send_over(reading, Callee::Index, found.value, Some(last.value));
+        self.left = self.left - found.steps - last.steps - 1;
+        true
+    }
+
     /// Evaluates an assignment with an operator.
     #[cold]
     #[inline(never)]
@@ -241,6 +296,11 @@ impl Engine {
             Some(&Node::Field(name)) => {
                 let frame = Frame::SetField(name);
                 self.update_under(prepared, space, here, frame, op, target, value, stop);
+            }
+            Some(&Node::Index(receiver, index)) => {
+                if !self.update_element(prepared, space, here, op, receiver, index, value, stop) {
+                    self.update_any(prepared, here, op, target, value, stop);
+                }
             }
             _ => self.update_any(prepared, here, op, target, value, stop),
         }

@@ -25,7 +25,7 @@ returns-in-Some-clause-goes c =
     let enough = c.in-Some.ensures.enough in
     if_ok c.send_held.result _ _
     (λ q goes h.
-    last_comes p n t c.args.base c.args.part c.args.steps last.steps last.value c.args.callee h c.in-Some.ensures.takes (omega (arith, enough))
+    last_comes p n t c.args.base c.args.part c.args.steps last.steps last.value (Call c.args.callee) h c.in-Some.ensures.takes (omega (arith, enough))
     ∙ ap (λ i. after_values p n t (Argument (Call c.args.callee) 0 0 c.args.base) (finish (context_of p) (Call c.args.callee) (drop c.args.base n.held ++ last.value ∷ [])) h (n.left - (i + 1))) (sym c.steps_together-all.ensures)
     ∙ goes 0 h)
     c.send_held.ensures.goes

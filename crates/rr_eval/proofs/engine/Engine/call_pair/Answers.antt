@@ -23,7 +23,7 @@ returns-in_ok-push-in-Some-clause-goes c =
     let found = c.in-Some.found in
     let enough = c.in-Some.ensures.enough in
     if_ok c.call_last.result _ _
-    (λ q goes h. pair_first p m t c.args.here c.len-base.result c.args.receiver c.args.argument found.steps found.value c.push.new.self.items c.args.callee h c.requires.control c.requires.script c.in-Some.ensures.takes (omega arith) c.in_ok-push-in-Some.ensures.items (omega (arith, enough)) ∙ goes h)
+    (λ q goes h. pair_first p m t c.args.here c.len-base.result c.args.receiver c.args.argument found.steps found.value c.push.new.self.items (Call c.args.callee) h c.requires.control c.requires.script c.in-Some.ensures.takes (omega arith) c.in_ok-push-in-Some.ensures.items (omega (arith, enough)) ∙ goes h)
     c.call_last.ensures.goes
 
 pub returns-in-None-clause-goes : goal.returns-in-None-clause-goes
