@@ -1,6 +1,6 @@
 //! Calls of methods, as an environment serves them. The store is given for its clusters, among which are all that the space leads to.
 
-ghost use Rattle.std.specs.Prelude.{◌≡◌, ◌≤◌, ◌∷◌, [], length, map, Some, Ok, Err, Result, if◌then◌else◌, IfOk, IfErr};
+ghost use Rattle.std.specs.Prelude.{◌≡◌, ◌∷◌, [], length, map, Some, Ok, Err, Result, if◌then◌else◌, IfOk, IfErr};
 ghost use Rattle.std.specs.List.{All};
 ghost use Rattle.rr_space.specs.Parts.{IsWithin};
 ghost use Rattle.rr_space.specs.Tables.{Below};

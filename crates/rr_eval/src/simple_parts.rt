@@ -30,7 +30,8 @@ pub enum SimplePart {
     Value(Ref),
     /// `self`.
     Itself,
-    /// What is taken for an instance variable, or for an attribute of an object that a variable holds.
+    /// What is taken for an instance variable, for an attribute of an object that a variable holds, for a global variable or for a constant
+    /// that is no class of the program.
     Reading,
     /// A part that needs a frame.
     Other,

@@ -211,7 +211,7 @@ impl Engine {
         }))
     }
 
-    /// Asks for a call that assigns to an element, whose value the topmost frame waited for.
+    /// Asks for a call that assigns to an element or an attribute, whose value the topmost frame waited for.
     #[inline(always)]
     fn ask_put(
         &mut self,

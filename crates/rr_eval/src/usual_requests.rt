@@ -249,7 +249,7 @@ impl Engine {
         }
     }
 
-    /// Asks for a call that comes next: of an element or an attribute that is read and then assigned to.
+    /// Asks for a call that comes next: by it an element or an attribute is read that is then assigned to.
     #[inline(always)]
     pub fn ask_sent(
         &mut self,
