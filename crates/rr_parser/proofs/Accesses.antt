@@ -1,6 +1,7 @@
 -- Attributes of classes, and what stands between the members of a class.
 use Rattle.std.proofs.Common.{◌≡◌, Bool, true, false, List, Option, Some, None, Ok, refl, ap, ◌∙◌, arith}
 use Rattle.std.specs.Prelude.{is_some}
+use Rattle.std.proofs.lemmas.Option.{none-some}
 use Rattle.rr_base.specs.declared.name.Sym.{Sym}
 use Rattle.rr_parser.specs.declared.word.Access.{Access}
 use Rattle.rr_parser.specs.declared.word.Word.{Word}
@@ -25,7 +26,7 @@ Steps-symbol = Steps-first_as (λ w. symbol_of_kind w.kind)
 
 access_no_end : (k : WordKind) (a : Access) → access_of_kind k ≡ Some a → is_kind k kind.End ≡ false
 access_no_end (kind.Name x k) a e = refl
-access_no_end _ a e = absurd cc
+access_no_end _ a e = absurd (none-some a e)
 
 -- the word before attributes is no `end`
 pub access-no_end : (s z : Place) (a : Access) → at access_word s ≡ Some (a, z) → at (word kind.End) s ≡ None

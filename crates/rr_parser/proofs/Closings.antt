@@ -1,5 +1,6 @@
 -- Where members of lists begin and end.
 use Rattle.std.proofs.Common.{◌≡◌, ◌<◌, Bool, true, false, Option, Some, None, refl, sym, ap, ◌∙◌, arith}
+use Rattle.std.proofs.lemmas.Bool.{false≢true}
 use Rattle.rr_base.specs.declared.name.Sym.{Sym}
 use Rattle.rr_tree.specs.Tree.{Tree}
 use Rattle.rr_parser.specs.declared.word.Listed.{Listed}
@@ -77,7 +78,7 @@ last_stops k m z u e = let h = last-next k m z u e in (stops_by h.0 27 m h.1 h.2
     member_stop listings.Call kind.Close f = omega arith
     member_stop listings.Array kind.CloseSquare f = omega arith
     member_stop listings.Hash kind.CloseBrace f = omega arith
-    member_stop listings.Command _ f = absurd cc
-    member_stop listings.Call _ f = absurd cc
-    member_stop listings.Array _ f = absurd cc
-    member_stop listings.Hash _ f = absurd cc
+    member_stop listings.Command _ f = absurd (false≢true f)
+    member_stop listings.Call _ f = absurd (false≢true f)
+    member_stop listings.Array _ f = absurd (false≢true f)
+    member_stop listings.Hash _ f = absurd (false≢true f)

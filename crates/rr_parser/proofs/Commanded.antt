@@ -1,6 +1,7 @@
 -- Statements that begin with a command.
 use Rattle.std.proofs.Common.{◌≡◌, ℕ, Bool, true, false, ◌||◌, List, Option, Some, None, is_some, Result, refl, sym, ap, ◌∙◌, subst}
 use Rattle.std.specs.Borrow.{Bor}
+use Rattle.std.proofs.lemmas.Option.{none-some}
 use Rattle.rr_tree.specs.Tree.{Tree, tree_at}
 use Rattle.rr_parser.specs.declared.parser.Parser.{Parser}
 use Rattle.rr_parser.specs.declared.refusal.Refusal.{Refusal}
@@ -25,7 +26,7 @@ head_no_not : (k : WordKind) (x : Head) → head_of_kind k ≡ Some x → is_kin
 head_no_not (kind.Name y n) x e = refl
 head_no_not (kind.Jump j) x e = refl
 head_no_not (kind.Passing p) x e = refl
-head_no_not _ x e = absurd cc
+head_no_not _ x e = absurd (none-some x e)
 
 any_of : (a b c : Bool) → b ≡ true → (a || b || c) ≡ true
 any_of true b c e = refl

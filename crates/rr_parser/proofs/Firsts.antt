@@ -1,5 +1,7 @@
 -- Which words begin what.
 use Rattle.std.proofs.Common.{◌≡◌, zero, suc, ◌<◌, Bool, true, false, not, ◌&&◌, List, ◌∷◌, Option, Some, None, refl, sym, ap, ◌∙◌, subst, arith, ℕ, []}
+use Rattle.std.proofs.lemmas.Bool.{false≢true}
+use Rattle.std.proofs.lemmas.Option.{none-some}
 use Rattle.rr_base.specs.declared.name.Sym.{Sym}
 use Rattle.rr_tree.specs.Tree.{Tree}
 use Rattle.rr_parser.specs.declared.word.Head.{Head}
@@ -27,7 +29,7 @@ use Rattle.rr_parser.specs.Grammar.Operators.{operator, infixed, connective, joi
 use Rattle.rr_parser.specs.Grammar.Calls.{target, Assigned, an_assignment, no_assignment, Argument, a_command, Phrase, by_name, an_operand, Value, closing, target_of_kind, label, star, label_of_kind, Settled, a_setting, no_setting, by_receiver}
 use Rattle.rr_parser.specs.Grammar.Several.{Targeted, a_target, a_spot}
 use Rattle.rr_parser.specs.Grammar.Sequences.{Negation, a_negation, no_negation, Simple, to_several, no_several, modifier, Modifying, Statement}
-use Rattle.rr_parser.specs.Reading.Operands.{prefix_minus}
+use Rattle.rr_parser.specs.Reading.Operands.{no_integer, prefix_minus}
 use Rattle.rr_parser.specs.Reading.Sequences.{ends_at, ends}
 use Rattle.rr_parser.proofs.Looks.{seen_as, none_unless, by_next, one_kind, other-word, name-next, no_prefix, target-next, head-next, command-next, unseen_kind}
 use Rattle.rr_parser.proofs.Listing.{closes, closing-next}
@@ -75,7 +77,7 @@ literal_opens (kind.Symbol x) t e = refl
 literal_opens (kind.Field x) t e = refl
 literal_opens (kind.Global x) t e = refl
 literal_opens kind.Itself t e = refl
-literal_opens _ t e = absurd cc
+literal_opens _ t e = absurd (none-some t e)
 
 construct_opens : (k : WordKind) (p : Part) → construct_of k ≡ Some p → opens k ≡ true
 construct_opens kind.Open p e = refl
@@ -86,7 +88,7 @@ construct_opens kind.Unless p e = refl
 construct_opens (kind.Loop until) p e = refl
 construct_opens kind.Begin p e = refl
 construct_opens (kind.TextHead i) p e = refl
-construct_opens _ p e = absurd cc
+construct_opens _ p e = absurd (none-some p e)
 
 -- What an operand begins with.
 pub data First (s : Place) : Type 0 where
@@ -109,12 +111,12 @@ pub bare_no_command : (x : Sym) (m : Place) → begins_operands m.rest ≡ false
 bare_no_command x m e = ap (λ b. not (is_local x m) && b) e ∙ and_false (not (is_local x m))
 
 bracket_told : (b : Bool) (k : WordKind) (u : Unit {0}) → unless b (where_true (is_kind k kind.Open)) ≡ Some u → is_kind k kind.Open ≡ true
-bracket_told true k u e = absurd cc
+bracket_told true k u e = absurd (none-some u e)
 bracket_told false k u e = by_test (is_kind k kind.Open) refl e
   where
     by_test : (o : Bool) → is_kind k kind.Open ≡ o → where_true o ≡ Some u → is_kind k kind.Open ≡ true
     by_test true f h = f
-    by_test false f h = absurd cc
+    by_test false f h = absurd (none-some u h)
 
 -- the bracket that opens arguments has no blank before it
 bracket_no_operands : (z n : Place) (u : Unit {0}) → at bracket z ≡ Some (u, n) → begins_operands z.rest ≡ false
@@ -122,11 +124,11 @@ bracket_no_operands z n u e = by_words z.known z.rest e
   where
     by_blank : (b : Bool) (known : Known) (w : Word) (ws : List Word) → w.blank ≡ b → placed known (seen_before (unless b (where_true (is_kind w.kind kind.Open))) ws) ≡ Some (u, n)
         → (b && begins_operand w.kind (is_tight ws)) ≡ false
-    by_blank true known w ws f h = absurd cc
+    by_blank true known w ws f h = absurd (none-some (u, n) h)
     by_blank false known w ws f h = refl
 
     by_words : (known : Known) (ws : List Word) → placed known (bracket ws) ≡ Some (u, n) → begins_operands ws ≡ false
-    by_words known [] f = absurd cc
+    by_words known [] f = absurd (none-some (u, n) f)
     by_words known (w ∷ ws) f = by_blank w.blank known w ws refl f
 
 pub bracket_not_other : (z n o : Place) (u : Unit {0}) (q : WordKind) → is_kind q kind.Open ≡ false → at bracket z ≡ Some (u, n) → next z ≡ Some (q, o) → ⊥
@@ -146,7 +148,7 @@ opens_block _ = false
 fence_opens : (q : Behind) (b : Bool) (k : WordKind) (f : Fence) → fence_of q b k ≡ Some f → opens_block k ≡ true
 fence_opens q b kind.OpenBrace f e = refl
 fence_opens q b kind.Do f e = refl
-fence_opens q b _ f e = absurd cc
+fence_opens q b _ f e = absurd (none-some f e)
 
 pub record OpensBlock (s n : Place) : Type 0 where
   pub kind : WordKind
@@ -165,7 +167,7 @@ opened_stops q s n f e = let o = opened_next q s n f e in stops_by o.kind 31 s n
     loose : (k : WordKind) → opens_block k ≡ true → 31 < strength k
     loose kind.OpenBrace g = omega arith
     loose kind.Do g = omega arith
-    loose _ g = absurd cc
+    loose _ g = absurd (false≢true g)
 
 brace_no_operands : (z n : Place) (f : Fence) → opened behinds.Call z ≡ Some (f, n) → begins_operands z.rest ≡ false
 brace_no_operands z n f e = let o = opened_next behinds.Call z n f e in by_next (λ q. begins_operands q.rest ≡ false) z n o.kind o.here (λ b. by_kind o.kind o.told b n.rest)
@@ -173,7 +175,7 @@ brace_no_operands z n f e = let o = opened_next behinds.Call z n f e in by_next 
     by_kind : (k : WordKind) → opens_block k ≡ true → (b : Bool) (ws : List Word) → (b && begins_operand k (is_tight ws)) ≡ false
     by_kind kind.OpenBrace g b ws = and_false b
     by_kind kind.Do g b ws = and_false b
-    by_kind _ g b ws = absurd cc
+    by_kind _ g b ws = absurd (false≢true g)
 
 pub fence_not_other : (z n o : Place) (f : Fence) (q : WordKind) → opens_block q ≡ false → opened behinds.Call z ≡ Some (f, n) → next z ≡ Some (q, o) → ⊥
 fence_not_other z n o f q other e g =
@@ -205,7 +207,7 @@ primary_first R s z t (a_passing_call {m = m} {n = n} {p = p} {u = u} e f g h) =
 primary_first R s z t (a_construct {k = k} {p = p} e f h) = by_word e (construct_opens k p f)
 
 open_no_bang : (k : WordKind) → opens k ≡ true → is_kind k kind.Bang ≡ false
-open_no_bang kind.Bang e = absurd cc
+open_no_bang kind.Bang e = absurd (false≢true e)
 open_no_bang _ e = refl
 
 primary_no_bang : (R : Nested) (s z : Place) (t : Tree) → Primary R s t z → at (word kind.Bang) s ≡ None
@@ -222,9 +224,12 @@ primary_no_bang R s z t (a_passing {p = p} e f g h) = other-word kind.Bang (kind
 primary_no_bang R s z t (a_passing_call {m = m} {p = p} e f g h) = other-word kind.Bang (kind.Passing p) s m e refl
 primary_no_bang R s z t (a_construct {m = m} {k = k} {p = p} e f h) = other-word kind.Bang k s m e (open_no_bang k (construct_opens k p f))
 
+open_no_minus : (k : WordKind) → opens k ≡ true → is_kind k kind.Minus ≡ false
+open_no_minus kind.Minus e = absurd (false≢true e)
+open_no_minus _ e = refl
+
 open_no_prefix : (s m : Place) (k : WordKind) → next s ≡ Some (k, m) → opens k ≡ true → at prefix_minus s ≡ None
-open_no_prefix s m kind.Minus e f = absurd cc
-open_no_prefix s m k e f = by_next (λ q. at prefix_minus q ≡ None) s m k e (λ b. refl)
+open_no_prefix s m k e f = by_next (λ q. at prefix_minus q ≡ None) s m k e (λ b. ap (λ t. placed m.known (no_integer (seen_before (where_true t) m.rest))) (open_no_minus k f))
 
 primary_no_prefix : (R : Nested) (s z : Place) (t : Tree) → Primary R s t z → at prefix_minus s ≡ None
 primary_no_prefix R s z t (a_literal {k = k} e f) = open_no_prefix s z k e (literal_opens k t f)
@@ -319,22 +324,22 @@ first_starts s (by_bang {m = m} e) = record { kind = kind.Bang; behind = m; here
 first_starts s (by_prefix {m = m} e) = record { kind = kind.Minus; behind = m; here = e; told = refl }
 
 start_no_end : (k : WordKind) → starts k ≡ true → ends_at k ≡ false
-start_no_end kind.Close e = absurd cc
-start_no_end kind.CloseBrace e = absurd cc
-start_no_end (kind.TextMiddle i) e = absurd cc
-start_no_end (kind.TextTail i) e = absurd cc
-start_no_end kind.Elsif e = absurd cc
-start_no_end kind.Else e = absurd cc
-start_no_end kind.Rescue e = absurd cc
-start_no_end kind.Ensure e = absurd cc
-start_no_end kind.End e = absurd cc
+start_no_end kind.Close e = absurd (false≢true e)
+start_no_end kind.CloseBrace e = absurd (false≢true e)
+start_no_end (kind.TextMiddle i) e = absurd (false≢true e)
+start_no_end (kind.TextTail i) e = absurd (false≢true e)
+start_no_end kind.Elsif e = absurd (false≢true e)
+start_no_end kind.Else e = absurd (false≢true e)
+start_no_end kind.Rescue e = absurd (false≢true e)
+start_no_end kind.Ensure e = absurd (false≢true e)
+start_no_end kind.End e = absurd (false≢true e)
 start_no_end _ e = refl
 
 pub starts_no_end : (s : Place) → Starts s → ends s.rest ≡ false
 starts_no_end s f = next_ends s f.behind f.kind false f.here (start_no_end f.kind f.told)
 
 start_no_not : (k : WordKind) → starts k ≡ true → is_kind k kind.NotWord ≡ false
-start_no_not kind.NotWord e = absurd cc
+start_no_not kind.NotWord e = absurd (false≢true e)
 start_no_not _ e = refl
 
 pub starts_no_not : (s : Place) → Starts s → at (word kind.NotWord) s ≡ None
@@ -342,11 +347,11 @@ starts_no_not s f = other-word kind.NotWord f.kind s f.behind f.here (start_no_n
 
 start_no_closing : (k : Listed) (q : WordKind) → starts q ≡ true → closes k q ≡ false
 start_no_closing listings.Command q e = refl
-start_no_closing listings.Call kind.Close e = absurd cc
+start_no_closing listings.Call kind.Close e = absurd (false≢true e)
 start_no_closing listings.Call _ e = refl
-start_no_closing listings.Array kind.CloseSquare e = absurd cc
+start_no_closing listings.Array kind.CloseSquare e = absurd (false≢true e)
 start_no_closing listings.Array _ e = refl
-start_no_closing listings.Hash kind.CloseBrace e = absurd cc
+start_no_closing listings.Hash kind.CloseBrace e = absurd (false≢true e)
 start_no_closing listings.Hash _ e = refl
 
 -- where a value begins, no list ends
@@ -362,7 +367,7 @@ target_start (kind.Name y b) x f = refl
 target_start (kind.Field y) x f = refl
 target_start (kind.Global y) x f = refl
 target_start (kind.Constant y n) x f = refl
-target_start _ x f = absurd cc
+target_start _ x f = absurd (none-some x f)
 
 pub target_starts : (s z : Place) (x : Aim) → at target s ≡ Some (x, z) → Starts s
 target_starts s z x e = let h = target-next s z x e in record { kind = h.first; behind = h.m; here = h.here; told = target_start h.first x.target h.told }
@@ -378,7 +383,7 @@ head_starts s m x e = let h = head-next s m x e in record { kind = h.0; behind =
     head_start (kind.Name y b) x f = refl
     head_start (kind.Jump j) x f = refl
     head_start (kind.Passing p) x f = refl
-    head_start _ x f = absurd cc
+    head_start _ x f = absurd (none-some x f)
 
 pub phrase_starts : (R : Nested) (s z : Place) (t : Tree) → Phrase R s t z → Starts s
 phrase_starts R s z t (by_name (a_command {m = m} {x = x} e h b)) = head_starts s m x (command-next s m x e).0
@@ -393,7 +398,7 @@ pub argument_starts : (R : Nested) (s z : Place) (t : Tree) → Argument R s t z
 argument_starts R = assigned_starts R false (Settled R false) (λ s z t h. first_starts s (settled_first R false s z t h))
 
 start_no_star : (k : WordKind) → starts k ≡ true → is_kind k star ≡ false
-start_no_star (kind.Operator o) e = absurd cc
+start_no_star (kind.Operator o) e = absurd (false≢true e)
 start_no_star _ e = refl
 
 -- where a value begins, no `*` stands
@@ -401,7 +406,7 @@ pub starts_no_star : (s : Place) → Starts s → at (word star) s ≡ None
 starts_no_star s f = other-word star f.kind s f.behind f.here (start_no_star f.kind f.told)
 
 start_no_label : (k : WordKind) → starts k ≡ true → label_of_kind k ≡ None
-start_no_label (kind.Label y) e = absurd cc
+start_no_label (kind.Label y) e = absurd (false≢true e)
 start_no_label _ e = refl
 
 -- nor does one stand where a `*` does
@@ -447,11 +452,11 @@ module _ {X : Type 0} (f : WordKind → Option X) (no_not : f kind.NotWord ≡ N
   statement_unseen s z t c = let g = trail_head modifier (Simple R) (Modifying R) s z t c in simple_unseen s g.1 g.0 g.2
 
 start_no_def : (k : WordKind) → starts k ≡ true → where_true (is_kind k kind.Def) ≡ None
-start_no_def kind.Def e = absurd cc
+start_no_def kind.Def e = absurd (false≢true e)
 start_no_def _ e = refl
 
 start_no_class : (k : WordKind) → starts k ≡ true → opening_of_kind k ≡ None
-start_no_class (kind.Class o) e = absurd cc
+start_no_class (kind.Class o) e = absurd (false≢true e)
 start_no_class _ e = refl
 
 pub statement_no_def : (R : Nested) (s z : Place) (t : Tree) → Statement R s t z → at (word kind.Def) s ≡ None

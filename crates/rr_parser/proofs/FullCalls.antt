@@ -1,5 +1,6 @@
 -- What is spelled of assignments, arguments and commands is read, unless it nests too deep.
 use Rattle.std.proofs.Common.{◌≡◌, inl, inr, Bool, true, false, List, Option, Some, None, Ok, refl, sym, ap, ◌∙◌, arith, cond, Err}
+use Rattle.std.proofs.lemmas.Option.{none-some}
 use Rattle.rr_parser.proofs.Prefixes.{unprefixed, not_prefixed}
 use Rattle.rr_parser.proofs.Introduced.{not_introduced, unintroduced, listed_from}
 use Rattle.rr_tree.specs.Tree.{Tree, array, hash, splat, pair, symbol, listed, send}
@@ -164,7 +165,7 @@ module _ (N : Readers) (R : Nested) (D : Type 0) (shrinks : ReadersShrink N) (ne
     where
       by_kind : (k : WordKind) → next s ≡ Some (k, m) → label_of_kind k ≡ Some x → at (command s.known) s ≡ None
       by_kind (kind.Label y) f g = by_next (λ q. at (command q.known) q ≡ None) s m (kind.Label y) f (λ b. refl)
-      by_kind _ f g = absurd cc
+      by_kind _ f g = absurd (none-some x g)
 
   listing_no_command : (only : Bool) (s z : Place) (r : Member) → Listing R only s r z → at (command s.known) s ≡ None
   listing_no_command only s z r (an_item {t = t} e h) = item_no_command s z t h

@@ -3,6 +3,7 @@ use Rattle.rr_parser.specs.declared.word.Naming.{Naming}
 use Rattle.rr_parser.specs.declared.word.Sign.{Sign}
 use Rattle.rr_parser.specs.Grammar.Calls.{Settled, a_setting, no_setting, settled, sign}
 use Rattle.std.proofs.Common.{◌≡◌, zero, suc, ◌+◌, ◌*◌, inl, inr, pos, Bool, true, false, cond, List, Option, Some, None, Ok, Err, refl, sym, ap, ◌∙◌, subst, arith, ℕ, []}
+use Rattle.std.proofs.lemmas.Option.{none-some}
 use Rattle.rr_base.specs.declared.name.Sym.{Sym}
 use Rattle.rr_tree.specs.Tree.{Tree, nil, truth, int, text, bare, call, with_block, negate, choose, send, symbol, constant, field, global, itself, logical_not, listed}
 use Rattle.rr_parser.specs.declared.word.Tail.{Tail}
@@ -113,7 +114,7 @@ module _ (N : Readers) (R : Nested) (D : Type 0) (shrinks : ReadersShrink N) (ne
   literal_full (kind.Field x) z t f = reads (field x.0) t z f
   literal_full (kind.Global x) z t f = reads (global x.0) t z f
   literal_full kind.Itself z t f = reads itself t z f
-  literal_full _ z t f = absurd cc
+  literal_full _ z t f = absurd (none-some t f)
 
   construct_full : (k : WordKind) (m : Place) (p : Part) → construct_of k ≡ Some p → primary_at N k m ≡ N.part p m
   construct_full kind.Open m p f = ap (λ q. N.part q m) (same_part parts.Group p f)
@@ -124,7 +125,7 @@ module _ (N : Readers) (R : Nested) (D : Type 0) (shrinks : ReadersShrink N) (ne
   construct_full (kind.Loop until) m p f = ap (λ q. N.part q m) (same_part (parts.Loop until) p f)
   construct_full kind.Begin m p f = ap (λ q. N.part q m) (same_part parts.Begin p f)
   construct_full (kind.TextHead i) m p f = ap (λ q. N.part q m) (same_part (parts.Interpolation i) p f)
-  construct_full _ m p f = absurd cc
+  construct_full _ m p f = absurd (none-some p f)
 
   -- a construct ends by itself
   construct_anywhere : (k : WordKind) (p : Part) (z : Place) → construct_of k ≡ Some p → PartStops p z
@@ -136,7 +137,7 @@ module _ (N : Readers) (R : Nested) (D : Type 0) (shrinks : ReadersShrink N) (ne
   construct_anywhere (kind.Loop until) p z f = subst (λ q. PartStops q z) (same_part (parts.Loop until) p f) tt
   construct_anywhere kind.Begin p z f = subst (λ q. PartStops q z) (same_part parts.Begin p f) tt
   construct_anywhere (kind.TextHead i) p z f = subst (λ q. PartStops q z) (same_part (parts.Interpolation i) p f) tt
-  construct_anywhere _ p z f = absurd cc
+  construct_anywhere _ p z f = absurd (none-some p f)
 
   plain_constant_full : (x : Sym) (outer : Naming) (z : Place) → at (inner_constant outer) z ≡ None → constant_at x outer z ≡ done (constant (paths.Plain x)) z
   unfolding constant_at

@@ -1,4 +1,5 @@
 pub mod Told
+pub mod Asked
 pub mod Looks
 pub mod Listing
 pub mod Chains
@@ -28,6 +29,8 @@ pub mod DeepCalls
 pub mod ClassDeep
 pub mod Deep
 pub mod Making
+pub mod Keeping
+pub mod Following
 pub mod Choosing
 pub mod Alone
 pub mod Levels

@@ -1,7 +1,7 @@
 -- Lists and branches of nodes, put one after another.
 use Rattle.std.proofs.Common.{◌≡◌, ℕ, ◌+◌, ◌<◌, ◌≤◌, List, [], ◌∷◌, ◌++◌, length, get_or, take, map, sym, ap, ◌∙◌, subst, arith, length-append, append_assoc}
 use Rattle.std.specs.Prelude.{All, IfOk, Result, Ok, Err}
-use Rattle.std.proofs.lemmas.List.{map-append, take_more, get_or_append_left}
+use Rattle.std.proofs.lemmas.List.{map-append, take_more, get_or_append_left, length-map}
 use Rattle.std.proofs.Math.Seq.{get_or-append_seam}
 use Rattle.rr_tree.specs.declared.node.Node.{Node}
 use Rattle.rr_tree.specs.Tree.{Tree, Trees, listed, choose, send, tree_at}
@@ -17,6 +17,13 @@ use Rattle.rr_parser.proofs.Choosing.{chosen-append}
 
 pub below_more_nodes : (i : ℕ) (old new xs : List Node) → new ≡ old ++ xs → i < length old → i < length new
 below_more_nodes i old new xs e lt = omega (arith, ap length e, length-append old xs)
+
+-- what stood before items were put, and the items
+pub below_items : (i : ℕ) (old new : List Node) (ids : List ℕ) → new ≡ old ++ map item ids → i < length old → i < length new
+below_items i old new ids e lt = below_more_nodes i old new (map item ids) e lt
+
+pub items_within : (old new : List Node) (ids : List ℕ) (first count : ℕ) → new ≡ old ++ map item ids → first ≡ length old → count ≡ length ids → first + count ≤ length new
+items_within old new ids first count e f g = omega (arith, f, g, ap length e, length-append old (map item ids), length-map ids item)
 
 -- one item more
 pub items_more : (old s0 s1 : List Node) (xs : List ℕ) (i : ℕ) → i < length xs → s0 ≡ old ++ map item (take i xs) → s1 ≡ s0 ++ item (get_or xs i 0) ∷ [] → s1 ≡ old ++ map item (take (i + 1) xs)

@@ -1,5 +1,6 @@
 -- What is seen at a place.
 use Rattle.std.proofs.Common.{◌≡◌, ℕ, suc, ◌<◌, ◌≤◌, ◌⊎◌, inl, inr, Bool, true, false, cond, List, [], ◌∷◌, length, Option, Some, None, refl, sym, ap, ◌∙◌, subst, arith}
+use Rattle.std.proofs.lemmas.Option.{none-some}
 use Rattle.rr_base.specs.declared.name.Sym.{Sym}
 use Rattle.rr_parser.specs.declared.word.NameKind.{NameKind}
 use Rattle.rr_parser.specs.declared.word.Tail.{Tail}
@@ -124,7 +125,7 @@ unseen_kind f k s z e h = by_next (λ p. at (first_as (λ w. f w.kind)) p ≡ No
 -- the word `class`
 opening_told : (k : WordKind) (o : Opening) → opening_of_kind k ≡ Some o → k ≡ kind.Class o
 opening_told (kind.Class p) o e = cc
-opening_told _ o e = absurd cc
+opening_told _ o e = absurd (none-some o e)
 
 pub class-next : (s z : Place) (o : Opening) → at class_word s ≡ Some (o, z) → next s ≡ Some (kind.Class o, z)
 class-next s z o e =
@@ -137,7 +138,7 @@ next-class s z o e = by_next (λ q. at class_word q ≡ Some (o, z)) s z (kind.C
 -- a name, and what it is told from other names by
 name_told : (k : WordKind) (x : Sym) → name_of_kind k ≡ Some x → (b : NameKind) × (k ≡ kind.Name x b)
 name_told (kind.Name y b) x e = (b, cc)
-name_told _ x e = absurd cc
+name_told _ x e = absurd (none-some x e)
 
 pub name-next : (s z : Place) (x : Sym) → at name s ≡ Some (x, z) → (b : NameKind) × (next s ≡ Some (kind.Name x b, z))
 name-next s z x e =
@@ -253,7 +254,7 @@ pub record TargetAt (s : Place) (x : Aim) (z : Place) : Type 0 where
 
 sign_told : (k : WordKind) (q : Sign) → sign_of_kind k ≡ Some q → k ≡ kind.Assign q
 sign_told (kind.Assign p) q e = cc
-sign_told _ q e = absurd cc
+sign_told _ q e = absurd (none-some q e)
 
 pub target-next : (s z : Place) (x : Aim) → at target s ≡ Some (x, z) → TargetAt s x z
 target-next s z x e = by_name (target_word s.rest) refl e

@@ -5,6 +5,7 @@ use Rattle.std.specs.List.{list_any, position_or_len}
 use Rattle.std.specs.Borrow.{Bor}
 use Rattle.std.specs.declared.alloc.Global.{Global}
 use Rattle.std.proofs.lemmas.List.{map-append, take_more, append_assoc}
+use Rattle.std.proofs.lemmas.Option.{none-some}
 use Rattle.rr_lexer.specs.declared.kind.Kind.{Kind}
 use Rattle.rr_lexer.specs.declared.kind.Kind.TheVariants as kinds
 use Rattle.rr_lexer.specs.declared.kind.Token.{Token}
@@ -22,7 +23,7 @@ use Rattle.rr_parser.specs.Numbering.{with_text_of}
 -- what has the sign of an assignment is one
 pub assigned_kind : (k : WordKind) (q : Sign) → Some q ≡ sign_of_kind k → word_kinds.Assign q ≡ k
 assigned_kind (word_kinds.Assign r) q e = cc
-assigned_kind _ q e = absurd cc
+assigned_kind _ q e = absurd (none-some q (sym e))
 
 abbrev pub now : Bor (List ℕ) → List ℕ
 now k = k.now

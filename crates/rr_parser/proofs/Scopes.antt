@@ -4,6 +4,7 @@ use Rattle.std.proofs.lemmas.List.{append-nil}
 use Rattle.std.proofs.Math.Seq.{take-suc}
 use Rattle.std.proofs.Math.Dec.{eqb-suc-suc}
 use Rattle.std.proofs.lemmas.Bool.{ne_eqb}
+use Rattle.std.proofs.lemmas.Option.{none-some}
 use Rattle.rr_base.specs.declared.name.Sym.{Sym}
 use Rattle.rr_parser.specs.declared.locals.Local.{Local}
 use Rattle.rr_parser.specs.Grammar.Names.{variable_of_kind, variable, local_if, later_or, find, seen_from}
@@ -108,7 +109,7 @@ names_unbegun k [] e = refl
 names_unbegun k (w ∷ ws) e = before_none k (variable_of_kind w.kind) ws e
 
 comma_seen : (k : WordKind) (v : Word) (ws after : List Word) (x : Sym) → is_kind v.kind kind.Comma ≡ true → variable ws ≡ Some (x, after) → more_names k (v ∷ ws) ≡ before_names (Some x) (more_names k after)
-comma_seen k v [] after x e f = absurd cc
+comma_seen k v [] after x e f = absurd (none-some (x, after) f)
 comma_seen k v (w ∷ ws) after x e f = ap (λ (b : Bool). cond b (before_names (variable_of_kind w.kind) (more_names k ws)) (no_more k v (w ∷ ws))) e ∙ before_seen k (variable_of_kind w.kind) ws after x f
 
 comma_last : (k : WordKind) (v : Word) (ws : List Word) → is_kind v.kind kind.Comma ≡ true → variable ws ≡ None → more_names k (v ∷ ws) ≡ None
@@ -165,3 +166,10 @@ variable_steps (w ∷ ws) after x e = by_kind (variable_of_kind w.kind) e
     by_kind : (o : Option Sym) → seen_before o ws ≡ Some (x, after) → length after < suc (length ws)
     by_kind None f = absurd cc
     by_kind (Some y) f = omega (arith, ap length (rest_is y x ws after f))
+
+less_twice : (a b c : ℕ) → a < b → b < c → a < c
+less_twice a b c f g = omega arith
+
+-- a comma and a name are behind
+pub names_smaller : (rest after left : List Word) (x : Sym) → word kind.Comma rest ≡ Some (tt, after) → variable after ≡ Some (x, left) → length left < length rest
+names_smaller rest after left x e f = less_twice (length left) (length after) (length rest) (variable_steps after left x f) (comma_steps rest after e)

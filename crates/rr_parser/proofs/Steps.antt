@@ -1,5 +1,6 @@
 -- What is left behind what is seen.
 use Rattle.std.proofs.Common.{◌≡◌, suc, List, ◌∷◌, length, Bool, Option, Some, None, refl, ap, arith, ◌<◌, ◌≤◌, ℕ, []}
+use Rattle.std.proofs.lemmas.Option.{none-some}
 use Rattle.rr_parser.specs.declared.word.Naming.{Naming}
 use Rattle.rr_parser.specs.declared.word.Naming.TheVariants as namings
 use Rattle.rr_parser.specs.declared.word.Caught.{Caught}
@@ -61,7 +62,7 @@ path-less known (w ∷ ws) x z e = by_kind w.kind e
 
     by_kind : (k : WordKind) → placed known (path_of_kind k ws) ≡ Some (x, z) → left z < suc (length ws)
     by_kind (kind.Constant y outer) h = by_inner y outer (inner_constant outer ws) refl h
-    by_kind _ h = absurd cc
+    by_kind _ h = absurd (none-some (x, z) h)
 
 pub Steps-path : Steps path
 Steps-path s z x e = path-less s.known s.rest x z e

@@ -1,5 +1,7 @@
 -- What stops which reader, and which words begin what.
 use Rattle.std.proofs.Common.{◌≡◌, ℕ, zero, suc, ◌+◌, ◌*◌, ◌<◌, ◌≤◌, Bool, true, false, ◌&&◌, List, Option, Some, None, refl, sym, ap, ◌∙◌, subst, arith, ◌||◌, is_some}
+use Rattle.std.proofs.lemmas.Bool.{false≢true}
+use Rattle.std.proofs.lemmas.Option.{none-some}
 use Rattle.rr_tree.specs.Tree.{Tree}
 use Rattle.rr_base.specs.declared.name.Sym.{Sym}
 use Rattle.rr_parser.specs.declared.word.Caught.{Caught}
@@ -88,7 +90,7 @@ module _ (s m n : Place) (k : WordKind) (x : Target) (w : WordKind) (here : next
       by_kind (kind.Field y) f g = open_no_name s m (kind.Field y) f refl
       by_kind (kind.Global y) f g = open_no_name s m (kind.Global y) f refl
       by_kind (kind.Constant y c) f g = open_no_name s m (kind.Constant y c) f refl
-      by_kind _ f g = absurd cc
+      by_kind _ f g = absurd (none-some x g)
 
 -- a target and the sign of an assignment begin no command
 pub aim_no_command : (s n : Place) (x : Aim) → at target s ≡ Some (x, n) → at (command s.known) s ≡ None
@@ -111,7 +113,7 @@ module _ (R : Nested) (s m n : Place) (k : WordKind) (x : Target) (w : WordKind)
   no_construct (kind.Field y) p e f = let never : ⊥ = cc in never
   no_construct (kind.Global y) p e f = let never : ⊥ = cc in never
   no_construct (kind.Constant y c) p e f = let never : ⊥ = cc in never
-  no_construct _ p e f = let never : ⊥ = cc in never
+  no_construct _ p e f = none-some x e
 
   no_word : (q o : WordKind) → target_of_kind q ≡ Some x → q ≡ o → target_of_kind o ≡ None → ⊥
   no_word q o e f g = let h : ◌≡◌ {A = Option Target} (Some x) None = sym e ∙ ap target_of_kind f ∙ g in let never : ⊥ = cc in never
@@ -303,7 +305,7 @@ AtEnd z = (k : WordKind) × (y : Place) × (next z ≡ Some (k, y)) × (finishes
 pub finished : (k : WordKind) → finishes k ≡ true → (is_kind k kind.Else ≡ false) × (is_kind k kind.Elsif ≡ false) × (is_kind k kind.Rescue ≡ false) × (ends_at k ≡ true)
 finished kind.End e = (refl, refl, refl, refl)
 finished kind.Ensure e = (refl, refl, refl, refl)
-finished _ e = absurd cc
+finished _ e = absurd (false≢true e)
 
 pub end_ends : (z : Place) → AtEnd z → ends z.rest ≡ true
 end_ends z a = next_ends z a.1 a.0 true a.2 (finished a.0 a.3).3
@@ -327,7 +329,7 @@ caught_stop z n x e = by_arrow (word kind.Arrow z.rest) refl e
 
 middle_told : (k : WordKind) (i : ℕ) → middle_of_kind k ≡ Some i → ends_at k ≡ true
 middle_told (kind.TextMiddle j) i e = refl
-middle_told _ i e = absurd cc
+middle_told _ i e = absurd (none-some i e)
 
 pub middle_ends : (z n : Place) (i : ℕ) → at text_middle z ≡ Some (i, n) → ends z.rest ≡ true
 middle_ends z n i e = let w = seen_as (λ w. middle_of_kind w.kind) z n i e in next_ends z n w.kind true w.here (middle_told w.kind i w.told)
@@ -338,7 +340,7 @@ tail_ends z n i e = let w = seen_as (λ w. tail_of_kind w.kind) z n i e in by_ki
   where
     by_kind : (k : WordKind) → next z ≡ Some (k, n) → tail_of_kind k ≡ Some i → (ends z.rest ≡ true) × (at text_middle z ≡ None)
     by_kind (kind.TextTail j) f g = (next_ends z n (kind.TextTail j) true f refl, by_next (λ q. at text_middle q ≡ None) z n (kind.TextTail j) f (λ b. refl))
-    by_kind _ f g = absurd cc
+    by_kind _ f g = absurd (none-some i g)
 
 pub elsif_ends : (z n : Place) (u : Unit {0}) → at elsif z ≡ Some (u, n) → ends z.rest ≡ true
 elsif_ends z n u e = next_ends z n kind.Elsif true (word-next kind.Elsif told_elsif z n u e) refl

@@ -1,6 +1,8 @@
 -- How loosely words go on with what stands before them, and what stops which reader.
 use Rattle.std.proofs.Common.{◌≡◌, ℕ, ◌+◌, ◌*◌, ◌<◌, inl, inr, Bool, true, false, cond, ◌==◌, List, [], ◌∷◌, Option, Some, None, refl, sym, ap, ◌∙◌, subst, arith}
+use Rattle.std.proofs.lemmas.Bool.{false≢true}
 use Rattle.std.proofs.lemmas.Bool.Decides.{eqb_tells}
+use Rattle.std.proofs.lemmas.Option.{none-some}
 use Rattle.rr_parser.specs.declared.word.Infix.{Infix}
 use Rattle.rr_parser.specs.declared.word.Infix.TheVariants as infixes
 use Rattle.rr_tree.specs.declared.node.BinaryOperator.TheVariants as op
@@ -18,7 +20,7 @@ use Rattle.rr_parser.specs.declared.word.Sign.{Sign}
 use Rattle.rr_parser.specs.Grammar.Calls.{comma, sign_of_kind, sign}
 use Rattle.rr_parser.specs.Grammar.Sequences.{modifier_of, modifier}
 use Rattle.rr_parser.specs.Grammar.Control.{thens, loops}
-use Rattle.rr_parser.specs.Reading.Sequences.{ends_at, ends, row}
+use Rattle.rr_parser.specs.Reading.Sequences.{ends, row}
 use Rattle.rr_parser.proofs.Told.{Told, told_comma}
 use Rattle.rr_parser.proofs.Looks.{is_tail, tail-next, seen_as, none_unless, word-next, separators-next, no_row, next-separators, thens-next, loops-next}
 
@@ -75,7 +77,7 @@ at_level-is l o x e = elim (eqb_tells (level_of o) l) [ inl t ↦ t.1 | inr f �
 operator_tells : (l : ℕ) (k : WordKind) (x : Infix) → operator_of l k ≡ Some x → strength k ≡ 3 * l
 operator_tells l (kind.Operator o) x e = ap (λ n. 3 * n) (at_level-is l o x e)
 operator_tells l kind.Minus x e = ap (λ n. 3 * n) (at_level-is l (infixes.Binary op.Subtract) x e)
-operator_tells l _ x e = absurd cc
+operator_tells l _ x e = absurd (none-some x e)
 
 pub operator_strength : (l : ℕ) (s z : Place) (x : Infix) → at (operator l) s ≡ Some (x, z) → strength_in (next s) ≡ 3 * l
 operator_strength l = seen_strength (operator_of l) (3 * l) (operator_tells l)
@@ -95,7 +97,7 @@ connective_tells l kind.And x e = ap (λ n. 15 + 5 * n) (where_level-is 1 l conn
 connective_tells l kind.Or x e = ap (λ n. 15 + 5 * n) (where_level-is 2 l connectives.Or x e)
 connective_tells l kind.AndWord x e = ap (λ n. 15 + 5 * n) (where_level-is 3 l connectives.And x e)
 connective_tells l kind.OrWord x e = ap (λ n. 15 + 5 * n) (where_level-is 3 l connectives.Or x e)
-connective_tells l _ x e = absurd cc
+connective_tells l _ x e = absurd (none-some x e)
 
 pub connective_strength : (l : ℕ) (s z : Place) (x : Connective) → at (connective l) s ≡ Some (x, z) → strength_in (next s) ≡ 15 + 5 * l
 connective_strength l = seen_strength (connective_of l) (15 + 5 * l) (connective_tells l)
@@ -107,11 +109,11 @@ modifier_tells : (k : WordKind) (x : Modifier) → modifier_of k ≡ Some x → 
 modifier_tells kind.If x e = refl
 modifier_tells kind.Unless x e = refl
 modifier_tells (kind.Loop until) x e = refl
-modifier_tells _ x e = absurd cc
+modifier_tells _ x e = absurd (none-some x e)
 
 sign_tells : (k : WordKind) (q : Sign) → sign_of_kind k ≡ Some q → strength k ≡ 27
 sign_tells (kind.Assign r) q e = refl
-sign_tells _ q e = absurd cc
+sign_tells _ q e = absurd (none-some q e)
 
 pub sign_strength : (s z : Place) (q : Sign) → at sign s ≡ Some (q, z) → strength_in (next s) ≡ 27
 sign_strength = seen_strength sign_of_kind 27 sign_tells
@@ -127,7 +129,7 @@ no_modifier_at = unseen modifier_of 31 modifier_tells
 tail_strong : (k : WordKind) → is_tail k ≡ true → strength k ≡ 0
 tail_strong kind.Dot e = refl
 tail_strong kind.OpenSquare e = refl
-tail_strong _ e = absurd cc
+tail_strong _ e = absurd (false≢true e)
 
 pub tail_strength : (s z : Place) (x : Tail) → at tail s ≡ Some (x, z) → strength_in (next s) ≡ 0
 tail_strength s z x e = let h = tail-next s z x e in ap strength_in h.here ∙ tail_strong h.first h.told
@@ -159,26 +161,29 @@ loops_stop z n u e = elim (loops-next z n u e) [
 abbrev pub BeforeEnd : Place → Type 0
 BeforeEnd z = Stops 31 z × (at row z ≡ None)
 
-at_word : (known : Known) (w : Word) (ws : List Word) (k : WordKind) → w.kind ≡ k → ends (cond (is_kind k kind.Separator) (without_separators ws) (w ∷ ws)) ≡ true
-    → BeforeEnd (record { known = known; rest = record { kind = k; blank = w.blank } ∷ ws })
-at_word known w ws kind.Separator f e =
-    let s : Place = record { known = known; rest = record { kind = kind.Separator; blank = w.blank } ∷ ws } in
+looser : 31 < 32
+looser = omega arith
+
+at_word : (known : Known) (k : WordKind) (b : Bool) (ws : List Word) → ends (cond (is_kind k kind.Separator) (without_separators ws) (record { kind = k; blank = b } ∷ ws)) ≡ true
+    → BeforeEnd (record { known = known; rest = record { kind = k; blank = b } ∷ ws })
+at_word known kind.Separator b ws e =
+    let s : Place = record { known = known; rest = record { kind = kind.Separator; blank = b } ∷ ws } in
     let n : Place = record { known = known; rest = ws } in
-    (omega arith, no_row s (skip n) tt (next-separators s n refl) e)
-at_word known w ws kind.Close f e = (omega arith, refl)
-at_word known w ws kind.CloseBrace f e = (omega arith, refl)
-at_word known w ws (kind.TextMiddle i) f e = (omega arith, refl)
-at_word known w ws (kind.TextTail i) f e = (omega arith, refl)
-at_word known w ws kind.Elsif f e = (omega arith, refl)
-at_word known w ws kind.Else f e = (omega arith, refl)
-at_word known w ws kind.Rescue f e = (omega arith, refl)
-at_word known w ws kind.Ensure f e = (omega arith, refl)
-at_word known w ws kind.End f e = (omega arith, refl)
-at_word known w ws _ f e = let g = sym e ∙ ap ends_at f in absurd cc
+    (looser, no_row s (skip n) tt (next-separators s n refl) e)
+at_word known kind.Close b ws e = (looser, refl)
+at_word known kind.CloseBrace b ws e = (looser, refl)
+at_word known (kind.TextMiddle i) b ws e = (looser, refl)
+at_word known (kind.TextTail i) b ws e = (looser, refl)
+at_word known kind.Elsif b ws e = (looser, refl)
+at_word known kind.Else b ws e = (looser, refl)
+at_word known kind.Rescue b ws e = (looser, refl)
+at_word known kind.Ensure b ws e = (looser, refl)
+at_word known kind.End b ws e = (looser, refl)
+at_word known _ b ws e = absurd (false≢true e)
 
 before_end : (known : Known) (ws : List Word) → ends (without_separators ws) ≡ true → BeforeEnd (record { known = known; rest = ws })
 before_end known [] e = (omega arith, refl)
-before_end known (w ∷ ws) e = at_word known w ws w.kind refl e
+before_end known (w ∷ ws) e = at_word known w.kind w.blank ws e
 
 pub ends_behind : (z : Place) → ends (skip z).rest ≡ true → BeforeEnd z
 ends_behind z e = before_end z.known z.rest e

@@ -1,5 +1,13 @@
-use Rattle.rr_parser.proofs.Scopes.{names_go_on, names_break, names_end, names_wrong}
+use Rattle.std.proofs.Common.{[], ◌∷◌, ◌++◌, ap, ◌∙◌}
+use Rattle.rr_parser.proofs.Scopes.{names_begin, names_go_on, names_break, names_end, names_wrong, names_smaller}
 use Rattle.rr_parser.proofs.blocks.names_to.Goals as goal
+
+pub loop-after-init : goal.loop-after-init
+loop-after-init c =
+    names_begin c.args.end c.args.words.now c.in-Some.rest.now c.in-Some.first c.push.new.self.items c.in-Some.ensures (c.in_ok-push.ensures.items ∙ ap (λ l. l ++ c.in-Some.first ∷ []) c.new-names.ensures.items)
+
+pub loop-after-smaller : goal.loop-after-smaller
+loop-after-smaller c = names_smaller c.loop-after.rest.now c.in-Some-behind.after.now c.in-Some-variable.after.now c.in-Some-variable.next c.in-Some-behind.ensures c.in-Some-variable.ensures
 
 pub loop-after-preserved : goal.loop-after-preserved
 loop-after-preserved c =

@@ -1,8 +1,11 @@
-use Rattle.std.proofs.Common.{List, [], ◌∷◌, ◌++◌, ◌-◌, ap, refl, sym, ◌∙◌, subst, arith}
-use Rattle.rr_parser.specs.Reading.Several.{targeted_of}
+use Rattle.std.proofs.Common.{true, List, map, [], ◌∷◌, ◌++◌, ◌-◌, ap, refl, sym, ◌∙◌, subst, arith}
+use Rattle.rr_parser.specs.declared.word.WordKind.TheVariants as kind
+use Rattle.rr_parser.specs.declared.word.Listed.TheVariants as listings
+use Rattle.rr_parser.specs.Grammar.Fences.{within_head}
+use Rattle.rr_parser.specs.Reading.Several.{targeted_of, targets_of}
 use Rattle.std.proofs.lemmas.Result.{err_from_is_err_and}
 use Rattle.rr_base.specs.declared.name.Sym.{Sym}
-use Rattle.rr_tree.specs.Tree.{Tree, tree_at}
+use Rattle.rr_tree.specs.Tree.{Tree, tree_at, text, nil, truth, symbol, field, global, itself, array, hash, listed}
 use Rattle.rr_parser.specs.Grammar.Chains.{and_one, and_all}
 use Rattle.rr_parser.specs.Grammar.Operators.{operator, infixed, connective, joined_by}
 use Rattle.rr_parser.specs.Grammar.Sequences.{modifier, modified}
@@ -10,28 +13,31 @@ use Rattle.rr_parser.specs.Grammar.Control.{elsif}
 use Rattle.rr_parser.specs.Reading.Answers.{Parse}
 use Rattle.rr_parser.specs.Reading.Operators.{binary_on, binary_of, logical_on, logical_of}
 use Rattle.rr_parser.specs.Grammar.Calls.{comma}
-use Rattle.rr_parser.specs.Reading.Calls.{argument_of, another, adding_to}
-use Rattle.rr_parser.specs.Reading.Sequences.{modifying_of, negation_of, expression_of, statement_of, statements_of, row}
+use Rattle.rr_parser.specs.Reading.Calls.{argument_of, another, adding_to, bracketed_of, array_of, hash_of, commanded_of}
+use Rattle.rr_parser.specs.Reading.Sequences.{modifying_of, negation_of, expression_of, statement_of, statements_of, row, rows_of}
 use Rattle.rr_parser.specs.Grammar.Bodies.{rescues}
 use Rattle.rr_parser.specs.Grammar.Interpolations.{text_middle, and_piece}
 use Rattle.rr_parser.specs.Reading.Interpolations.{pieces_of}
-use Rattle.rr_parser.specs.Reading.Control.{branch_of}
-use Rattle.rr_parser.specs.Reading.Bodies.{clause_of}
+use Rattle.rr_parser.specs.Reading.Control.{branch_of, branches_of}
+use Rattle.rr_parser.specs.Reading.Bodies.{clause_of, clauses_of}
 use Rattle.rr_parser.specs.Reading.{readers}
-use Rattle.rr_parser.specs.Meets.{Gives, GivesList, nodes, pairs, lists, givens, place}
+use Rattle.rr_parser.specs.Meets.{Gives, GivesList, nodes, pairs, lists, givens, reaches, SetsDo, place}
 use Rattle.rr_parser.proofs.Looks.{Steps-row}
 use Rattle.rr_parser.proofs.Accesses.{Steps-member_row}
 use Rattle.rr_parser.proofs.Joining.{joined_begin, joined_on, made_definition}
 use Rattle.rr_parser.proofs.Listing.{Steps-another}
 use Rattle.rr_parser.proofs.Steps.{Steps-comma, Steps-operator, Steps-connective, Steps-modifier, Steps-elsif, Steps-middle, Steps-rescues}
 use Rattle.rr_parser.proofs.Shrinking.{shrinks_nested}
-use Rattle.rr_parser.proofs.Making.{stable_nodes, stable_pairs, goes_ends, goes_fails, goes_smaller, list_on, operators_on, nested_part, nested_bracketed, nested_ordered, gives_outside}
+use Rattle.rr_parser.proofs.Keeping.{kept_within, kept_twice, kept_all, kept_pairs}
+use Rattle.rr_parser.proofs.Following.{made_word, made_minus, made_bang, made_negation, gives_simple, fails_simple, gives_led, gives_behind_operand, fails_first_operand, gives_introduced, gives_rights, fails_rights}
+use Rattle.rr_parser.proofs.Making.{made_over, stable_nodes, stable_pairs, goes_ends, goes_fails, goes_smaller, list_begins, list_on, operators_on, nested_part, nested_bracketed, nested_ordered, gives_outside}
+use Rattle.rr_parser.proofs.Defining.{made_passed}
 use Rattle.rr_parser.proofs.Alone.{binary_made, made_alone}
 use Rattle.rr_parser.proofs.Levels.{infixed_at, infixed_up, infixed_first, joined_at, joined_up, joined_first, joined_refused, levels_begin, levels_refused, levels_on, levels_fail, levels_end, levels_unbound}
-use Rattle.rr_parser.proofs.Choosing.{made_alternatives, made_pair, made_branch, made_loop, made_choice, made_unless}
-use Rattle.rr_parser.proofs.Spots.{gives_sent, made_element, made_attribute, made_setting, gives_ordered}
-use Rattle.rr_parser.proofs.Gathering.{turns_fail, turns_smaller, turns_go, turns_end, made_key, made_added}
-use Rattle.rr_parser.proofs.Calling.{gives_headed, made_behind, trail_fails, trail_smaller, trail_goes, trail_ends}
+use Rattle.rr_parser.proofs.Choosing.{gives_question, fails_loop, made_alternatives, made_pair, made_branch, made_loop, made_choice, made_unless}
+use Rattle.rr_parser.proofs.Spots.{made_block_send, gives_sent, made_element, made_attribute, made_setting, gives_ordered}
+use Rattle.rr_parser.proofs.Gathering.{made_first_in_room, made_listed, made_listed_on, turns_fail, turns_smaller, turns_go, turns_end, made_key, made_added}
+use Rattle.rr_parser.proofs.Calling.{made_taking, made_bracketed, made_argument_order, made_argument_command, gives_headed, made_behind, trail_fails, trail_smaller, trail_goes, trail_ends}
 use Rattle.rr_parser.proofs.Commanded.{gives_commanded, fails_commanded}
 use Rattle.rr_parser.proofs.Rescuing.{made_clause, made_rescued, made_ensured}
 use Rattle.rr_parser.proofs.Interpolating.{pieces_begin, pieces_on, made_interpolation}
@@ -487,3 +493,257 @@ methods-returns t c =
 pub class_body-returns : goal.class_body-returns
 class_body-returns t c =
     made_class (readers c.args.inside c.args.depth) c.args.name c.args.superclass c.args.self.now _ c.inner.new.self c.in_ok-methods.methods.items _ c.in_ok-methods.ensures c.put_class.new.self c.deref.result.now _ _ c.deref.ensures.value c.in-Some.ensures c.in_ok-put_class.ensures
+
+pub rows-loop-after-init : goal.rows-loop-after-init
+unfolding rows_of
+rows-loop-after-init t c =
+    list_begins nodes stable_nodes row (statement_of (readers c.args.inside c.args.depth)) Steps-row (shrinks_nested c.args.inside c.args.depth).statement c.args.self.now c.statement.new.self _ _ _ _ c.in_ok-first.ensures
+    (c.in_ok-push.ensures.items ∙ ap (λ l. l ++ c.in_ok-first.first ∷ []) c.new-items.ensures.items)
+
+pub branches-loop-after-init : goal.branches-loop-after-init
+unfolding branches_of
+branches-loop-after-init t c =
+    list_begins pairs stable_pairs elsif (branch_of (readers c.args.inside c.args.depth)) Steps-elsif (shrinks_nested c.args.inside c.args.depth).branch c.args.self.now c.branch-self.new.self _ _ _ _ c.in_ok-first.ensures
+    (c.in_ok-push.ensures.items ∙ ap (λ l. l ++ c.in_ok-first.first ∷ []) c.new-branches.ensures.items)
+
+pub clauses-loop-after-init : goal.clauses-loop-after-init
+unfolding clauses_of
+clauses-loop-after-init t c =
+    list_begins nodes stable_nodes rescues (clause_of (readers c.args.inside c.args.depth)) Steps-rescues (shrinks_nested c.args.inside c.args.depth).clause c.args.self.now c.clause.new.self _ _ _ _ c.in_ok-first.ensures
+    (c.in_ok-push.ensures.items ∙ ap (λ l. l ++ c.in_ok-first.first ∷ []) c.new-clauses.ensures.items)
+
+pub targets-loop-after-init : goal.targets-loop-after-init
+unfolding targets_of
+targets-loop-after-init t c =
+    list_begins nodes stable_nodes comma (targeted_of (readers c.args.inside c.args.depth)) Steps-comma (shrinks_nested c.args.inside c.args.depth).targeted c.args.self.now c.targeted.new.self _ _ _ _ c.in_ok-first.ensures
+    (c.in_ok-push.ensures.items ∙ ap (λ l. l ++ c.in_ok-first.first ∷ []) c.new-targets.ensures.items)
+
+pub clause-put_clause-requires-clause-target : goal.clause-put_clause-requires-clause-target
+clause-put_clause-requires-clause-target t c = kept_within c.catch.new.self c.statements.new.self c.in_ok-target.target c.in_ok-target.ensures.there c.in_ok-body.ensures.kept
+
+pub clause-put_clause-requires-clause-classes : goal.clause-put_clause-requires-clause-classes
+clause-put_clause-requires-clause-classes t c =
+    kept_all c.classes.new.self c.statements.new.self c.in_ok-classes.classes.items c.deref.result.now c.deref.ensures.value c.in_ok-classes.ensures.there
+    (kept_twice c.classes.new.self c.catch.new.self c.statements.new.self c.in_ok-target.ensures.kept c.in_ok-body.ensures.kept)
+
+pub rescued-put_rescue-requires-clause-clauses : goal.rescued-put_rescue-requires-clause-clauses
+rescued-put_rescue-requires-clause-clauses t c = kept_all c.clauses.new.self c.otherwise.new.self c.in_ok-clauses.clauses.items c.deref.result.now c.deref.ensures.value c.in_ok-clauses.ensures.there c.in_ok-otherwise.ensures.kept
+
+pub rescued-put_rescue-requires-clause-body : goal.rescued-put_rescue-requires-clause-body
+rescued-put_rescue-requires-clause-body t c =
+    kept_within c.statements.new.self c.otherwise.new.self c.in_ok-body.body c.in_ok-body.ensures.there (kept_twice c.statements.new.self c.clauses.new.self c.otherwise.new.self c.in_ok-clauses.ensures.kept c.in_ok-otherwise.ensures.kept)
+
+pub several_on-put_several-requires-clause-first : goal.several_on-put_several-requires-clause-first
+several_on-put_several-requires-clause-first t c =
+    kept_within c.args.self.now c.right_sides.new.self c.args.first c.requires (kept_twice c.args.self.now c.targets.new.self c.right_sides.new.self c.in_ok-targets.ensures.kept c.in_ok-value.ensures.kept)
+
+pub several_on-put_several-requires-clause-targets : goal.several_on-put_several-requires-clause-targets
+several_on-put_several-requires-clause-targets t c = kept_all c.targets.new.self c.right_sides.new.self c.in_ok-targets.targets.items c.deref.result.now c.deref.ensures.value c.in_ok-targets.ensures.there c.in_ok-value.ensures.kept
+
+pub repeat-put-requires : goal.repeat-put-requires
+repeat-put-requires t c = (kept_within c.condition.new.self c.statements.new.self c.in_ok-condition.condition c.in_ok-condition.ensures.there c.in_ok-body.ensures.kept, c.in_ok-body.ensures.there)
+
+pub alternatives-put-requires : goal.alternatives-put-requires
+alternatives-put-requires t c = (
+  kept_within c.args.self.now c.part-2.new.self c.args.condition c.requires (kept_twice c.args.self.now c.part.new.self c.part-2.new.self c.in_ok-then.ensures.kept c.in_ok-otherwise.ensures.kept),
+  kept_within c.part.new.self c.part-2.new.self c.in_ok-then.then c.in_ok-then.ensures.there c.in_ok-otherwise.ensures.kept,
+  c.in_ok-otherwise.ensures.there,
+)
+
+pub choice-put_choices-requires-clause-branches : goal.choice-put_choices-requires-clause-branches
+choice-put_choices-requires-clause-branches t c = kept_pairs c.branches.new.self c.otherwise.new.self c.in_ok-branches.branches.items c.in_ok-branches.ensures.there c.in_ok-otherwise.ensures.kept
+
+pub setting-put_setting-requires-clause-target : goal.setting-put_setting-requires-clause-target
+setting-put_setting-requires-clause-target t c = kept_within c.args.self.now c.right_side.new.self c.args.target c.requires.target c.in_ok-value.ensures.kept
+
+pub behind_key-put-requires : goal.behind_key-put-requires
+behind_key-put-requires t c = (kept_within c.args.self.now c.value.new.self c.args.argument c.requires c.in_ok-value.ensures.kept, c.in_ok-value.ensures.there)
+
+pub ordered-put_send-requires-clause-receiver : goal.ordered-put_send-requires-clause-receiver
+ordered-put_send-requires-clause-receiver t c = kept_within c.args.self.now c.arguments.new.self c.args.receiver c.requires c.in_ok-items.ensures.kept
+
+pub sent_arguments-put_send-requires-clause-receiver : goal.sent_arguments-put_send-requires-clause-receiver
+sent_arguments-put_send-requires-clause-receiver t c = kept_within c.args.self.now c.inner_arguments.new.self c.args.receiver c.requires c.in_ok-items.ensures.kept
+
+pub block_behind-put-requires : goal.block_behind-put-requires
+block_behind-put-requires t c = (kept_within c.args.self.now c.part.new.self c.args.call c.requires c.in_ok-block.ensures.kept, c.in_ok-block.ensures.there)
+
+pub element-put-requires : goal.element-put-requires
+element-put-requires t c = (kept_within c.args.self.now c.part.new.self c.args.receiver c.requires c.in_ok-index.ensures.kept, c.in_ok-index.ensures.there)
+
+pub infixed_on-put_infix-requires-clause-left : goal.infixed_on-put_infix-requires-clause-left
+infixed_on-put_infix-requires-clause-left t c = kept_within c.loop-operator.self c.binary.new.self c.loop-operator.left c.loop-operator.invariant.goes.there c.in_ok-right.ensures.kept
+
+pub joined_on-put_joined-requires-clause-left : goal.joined_on-put_joined-requires-clause-left
+joined_on-put_joined-requires-clause-left t c = kept_within c.loop-connective.self c.logical.new.self c.loop-connective.left c.loop-connective.invariant.goes.there c.in_ok-right.ensures.kept
+
+pub connected-put_joined-requires-clause-left : goal.connected-put_joined-requires-clause-left
+connected-put_joined-requires-clause-left t c = kept_within c.loop-connective.self c.negation.new.self c.loop-connective.left c.loop-connective.invariant.there c.in_ok-right.ensures.kept
+
+pub equality_on-put_infix-requires-clause-left : goal.equality_on-put_infix-requires-clause-left
+equality_on-put_infix-requires-clause-left t c = kept_within c.binary_on.new.self c.binary.new.self c.in_ok-left.left c.in_ok-left.ensures.there c.in_ok-right.ensures.kept
+
+pub statement-put_modified-requires-clause-statement : goal.statement-put_modified-requires-clause-statement
+statement-put_modified-requires-clause-statement t c = kept_within c.loop-modifier.self c.expression.new.self c.loop-modifier.statement c.loop-modifier.invariant.there c.in_ok-condition.ensures.kept
+
+pub body-put-requires : goal.body-put-requires
+body-put-requires t c = (kept_within c.rescued.new.self c.statements.new.self c.in_ok-body.body c.in_ok-body.ensures.there c.in_ok-last.ensures.kept, c.in_ok-last.ensures.there)
+
+pub unless-put-requires : goal.unless-put-requires
+unless-put-requires t c = (
+  kept_within c.branch-self.new.self c.otherwise.new.self c.in_ok-condition.condition c.in_ok-condition.ensures.there.0 c.in_ok-otherwise.ensures.kept,
+  c.in_ok-otherwise.ensures.there,
+  kept_within c.branch-self.new.self c.otherwise.new.self c.in_ok-condition.then c.in_ok-condition.ensures.there.1 c.in_ok-otherwise.ensures.kept,
+)
+
+pub commanded-returns-in-Some : goal.commanded-returns-in-Some
+commanded-returns-in-Some t c =
+    made_argument_command (readers c.args.inside c.args.depth) c.args.self.now c.part.new.self c.in_ok-command.command c.push.new.self.items _ c.args.words.now _ _ c.in-Some.ensures c.in_ok-command.ensures
+    (c.in_ok-push.ensures.items ∙ ap (λ l. l ++ c.in_ok-command.command ∷ []) c.new-items.ensures.items)
+
+pub commanded_on-returns : goal.commanded_on-returns
+commanded_on-returns t c =
+    made_argument_order (readers c.args.inside c.args.depth) c.args.self.now c.inner_order.new.self c.in_ok-command.command (reaches.tree c.args.self.now.nodes.items c.args.operand) c.push.new.self.items c.in-Some.name c.args.words.now
+    c.in-Some.rest.now _ c.in-Some.ensures c.in_ok-command.ensures (c.in_ok-push.ensures.items ∙ ap (λ l. l ++ c.in_ok-command.command ∷ []) c.new-items.ensures.items)
+
+pub bracketed-returns-in-Some-last : goal.bracketed-returns-in-Some-last
+bracketed-returns-in-Some-last t c =
+    made_bracketed (readers c.args.inside c.args.depth) c.args.list c.args.self.now c.listed.new.self _ c.args.words.now _ c.in-Some-last.rest.now c.in_default.ensures c.in_ok-items.ensures c.in-Some-last.ensures
+
+pub call_arguments-returns : goal.call_arguments-returns
+call_arguments-returns t c =
+    made_taking (bracketed_of (readers c.args.inside c.args.depth) listings.Call) true c.args.self.now c.set_do.new.self c.args.words.now c.set_do.ensures (lists nodes) c.bracketed.new.self c.set_do-2.new.self _ _ c.args.self.now.known.takes_do refl
+    c.in_ok-items.ensures c.set_do-2.ensures
+
+pub arguments-returns : goal.arguments-returns
+arguments-returns t c =
+    made_taking (commanded_of (readers c.args.inside c.args.depth)) (within_head c.args.head c.args.self.now.known.takes_do) c.args.self.now c.set_do.new.self c.args.words.now
+    (subst (λ b. SetsDo c.args.self.now c.set_do.new.self b) c.within_head.ensures c.set_do.ensures) (lists nodes) c.commanded.new.self c.set_do-2.new.self _ _ c.args.self.now.known.takes_do refl
+    c.in_ok-items.ensures c.set_do-2.ensures
+
+pub first_on-returns : goal.first_on-returns
+first_on-returns t c =
+    made_first_in_room (readers c.args.inside c.args.depth) (reaches.tree c.args.self.now.nodes.items c.args.operand) c.args.self.now c.reached.new.self c.behind_key.new.self c.no_members.new.self c.no_members.result c.in_ok-first.first
+    c.in_ok-argument.argument c.in_ok-member.member c.args.words.now _ _ c.no_members.ensures.items c.no_members.ensures.pairs
+    c.no_members.ensures.nodes c.no_members.ensures.known c.in_ok-argument.ensures c.in_ok-member.ensures c.in_ok-first.ensures
+
+pub listed_on-returns : goal.listed_on-returns
+listed_on-returns t c =
+    made_listed_on (readers c.args.inside c.args.depth) (reaches.tree c.args.self.now.nodes.items c.args.operand) c.args.self.now c.first_on.new.self c.members_on.new.self c.put_given.new.self c.in_ok-first.first c.in_ok-given.given _
+    c.args.words.now _ _ c.in_ok-first.ensures c.in_ok-given.ensures c.in_ok-put_given.ensures
+
+pub listed-returns : goal.listed-returns
+listed-returns t c =
+    made_listed (readers c.args.inside c.args.depth) c.args.list c.args.self.now c.members.new.self c.put_given.new.self c.in_ok-given.given _ c.args.words.now _ c.in_ok-given.ensures c.in_ok-put_given.ensures
+
+pub ternary_on-returns-in-Some : goal.ternary_on-returns-in-Some
+ternary_on-returns-in-Some t c =
+    gives_question (readers c.args.inside c.args.depth) c.args.self.now c.logical_on.new.self c.alternatives.new.self (tree_at c.args.self.now.nodes.items c.args.left) c.in_ok-condition.condition c.args.words.now _ c.in-Some.after.now
+    c.alternatives.result c.in_ok-condition.ensures c.in-Some.ensures c.alternatives.ensures
+
+pub repeat-returns-in_err-body : goal.repeat-returns-in_err-body
+repeat-returns-in_err-body t c =
+    let p = err_from_is_err_and c.from_residual-in_err-body.result c.from_residual-in_err-body.ensures.1 in
+    rw (p.1, p.2) (fails_loop (readers c.args.inside c.args.depth) c.args.until c.args.self.now c.condition.new.self c.in_ok-condition.condition c.args.words.now _ c.in-Some.after.now _ c.in_ok-condition.ensures c.in-Some.ensures c.in_err-body.ensures)
+
+pub passing-returns-in-Some : goal.passing-returns-in-Some
+passing-returns-in-Some t c =
+    made_passed (readers c.args.inside c.args.depth) c.args.self.now c.args.passing c.args.words.now c.if-not-self.false c.inner_arguments.new.self c.put_passed.new.self c.in_ok-items.items.items c.deref.result.now _ c.in-Some.rest.now _
+    c.deref.ensures.value c.in-Some.ensures c.in_ok-items.ensures c.in_ok-put_passed.ensures
+
+pub sent-returns : goal.sent-returns
+sent-returns t c =
+    made_block_send (readers c.args.inside c.args.depth) c.args.self.now c.put_send.new.self c.block_behind.new.self c.args.receiver c.in_ok-call.call c.in_ok-node.node c.args.name c.args.words.now c.in-Some.rest.now _ c.in-Some.fence
+    c.in_ok-call.ensures c.in-Some.ensures c.in_ok-node.ensures
+
+pub array-returns : goal.array-returns
+unfolding array_of
+array-returns t c =
+    made_over (λ l. array (listed l)) c.in_ok-items.ensures c.in_ok-put_array.ensures (ap (λ l. array (listed (map (tree_at c.bracketed.new.self.nodes.items) l))) c.deref.ensures.value)
+
+pub hash-returns : goal.hash-returns
+unfolding hash_of
+hash-returns t c =
+    made_over (λ l. hash (listed l)) c.in_ok-items.ensures c.in_ok-put_hash.ensures (ap (λ l. hash (listed (map (tree_at c.bracketed.new.self.nodes.items) l))) c.deref.ensures.value)
+
+pub minus-returns : goal.minus-returns
+minus-returns t c =
+    made_minus (readers c.args.inside c.args.depth) c.args.self.now c.part.new.self c.put.new.self _ _ c.args.words.now c.in-Some.rest.now _ c.in-Some.ensures c.in_ok-operand.ensures c.in_ok-put.ensures.puts
+
+pub bang-returns : goal.bang-returns
+bang-returns t c =
+    made_bang (readers c.args.inside c.args.depth) c.args.self.now c.part.new.self c.put.new.self _ _ c.args.words.now c.in-Some.rest.now _ c.in-Some.ensures c.in_ok-operand-2.ensures c.in_ok-put.ensures.puts
+
+pub negation-returns : goal.negation-returns
+negation-returns t c =
+    made_negation (readers c.args.inside c.args.depth) c.args.self.now c.part.new.self c.put.new.self _ _ c.args.words.now c.in-Some.rest.now _ c.in-Some.ensures c.in_ok-operand.ensures c.in_ok-put.ensures.puts
+
+pub primary-returns-in_ok-put-in-Text : goal.primary-returns-in_ok-put-in-Text
+primary-returns-in_ok-put-in-Text t c =
+    made_word (readers c.args.inside c.args.depth) c.args.self.now c.put.new.self c.args.words.now c.in-Some.rest.now c.in-Some.word.now (kind.Text c.in-Text.text) (text c.in-Text.text) _ c.in-Some.ensures.cases.0 c.in-Text.is refl
+    c.in_ok-put-in-Text.ensures.puts
+
+pub primary-returns-in_ok-put-in-Nil : goal.primary-returns-in_ok-put-in-Nil
+primary-returns-in_ok-put-in-Nil t c =
+    made_word (readers c.args.inside c.args.depth) c.args.self.now c.put-in-Nil.new.self c.args.words.now c.in-Some.rest.now c.in-Some.word.now kind.Nil nil _ c.in-Some.ensures.cases.0 c.in-Nil.is refl c.in_ok-put-in-Nil.ensures.puts
+
+pub primary-returns-in_ok-put-in-Truth : goal.primary-returns-in_ok-put-in-Truth
+primary-returns-in_ok-put-in-Truth t c =
+    made_word (readers c.args.inside c.args.depth) c.args.self.now c.put-in-Truth.new.self c.args.words.now c.in-Some.rest.now c.in-Some.word.now (kind.Truth c.in-Truth.truth) (truth c.in-Truth.truth) _ c.in-Some.ensures.cases.0 c.in-Truth.is refl
+    c.in_ok-put-in-Truth.ensures.puts
+
+pub primary-returns-in_ok-put-in-Symbol : goal.primary-returns-in_ok-put-in-Symbol
+primary-returns-in_ok-put-in-Symbol t c =
+    made_word (readers c.args.inside c.args.depth) c.args.self.now c.put-in-Symbol.new.self c.args.words.now c.in-Some.rest.now c.in-Some.word.now (kind.Symbol c.in-Symbol.name) (symbol c.in-Symbol.name.0) _ c.in-Some.ensures.cases.0 c.in-Symbol.is
+    refl c.in_ok-put-in-Symbol.ensures.puts
+
+pub primary-returns-in_ok-put-in-Field : goal.primary-returns-in_ok-put-in-Field
+primary-returns-in_ok-put-in-Field t c =
+    made_word (readers c.args.inside c.args.depth) c.args.self.now c.put-in-Field.new.self c.args.words.now c.in-Some.rest.now c.in-Some.word.now (kind.Field c.in-Field.name) (field c.in-Field.name.0) _ c.in-Some.ensures.cases.0 c.in-Field.is refl
+    c.in_ok-put-in-Field.ensures.puts
+
+pub primary-returns-in_ok-put-in-Global : goal.primary-returns-in_ok-put-in-Global
+primary-returns-in_ok-put-in-Global t c =
+    made_word (readers c.args.inside c.args.depth) c.args.self.now c.put-in-Global.new.self c.args.words.now c.in-Some.rest.now c.in-Some.word.now (kind.Global c.in-Global.name) (global c.in-Global.name.0) _ c.in-Some.ensures.cases.0 c.in-Global.is
+    refl c.in_ok-put-in-Global.ensures.puts
+
+pub primary-returns-in_ok-put-in-Itself : goal.primary-returns-in_ok-put-in-Itself
+primary-returns-in_ok-put-in-Itself t c =
+    made_word (readers c.args.inside c.args.depth) c.args.self.now c.put-in-Itself.new.self c.args.words.now c.in-Some.rest.now c.in-Some.word.now kind.Itself itself _ c.in-Some.ensures.cases.0 c.in-Itself.is refl c.in_ok-put-in-Itself.ensures.puts
+
+pub simple-returns : goal.simple-returns
+simple-returns t c =
+    gives_simple (readers c.args.inside c.args.depth) c.args.self.now c.args.words.now c.in_default.ensures c.postfix.new.self c.spotted.new.self _ _ c.spotted.result (sym c.is_led.ensures ∙ c.if-is_led.false) c.in_ok-operand.ensures c.spotted.ensures
+
+pub simple-returns-then-is_led : goal.simple-returns-then-is_led
+simple-returns-then-is_led t c =
+    gives_led (readers c.args.inside c.args.depth) c.args.self.now c.args.words.now c.in_default.ensures c.expression.new.self c.expression.result (sym c.is_led.ensures ∙ c.if-is_led.true) c.expression.ensures
+
+pub commanded-returns : goal.commanded-returns
+commanded-returns t c =
+    gives_behind_operand (readers c.args.inside c.args.depth) c.args.self.now c.args.words.now c.in_default.ensures c.postfix.new.self c.commanded_on.new.self _ _ c.commanded_on.result (sym c.is_introduced.ensures ∙ c.if-is_introduced.false)
+    c.in_ok-operand.ensures c.commanded_on.ensures
+
+pub commanded-returns-then-is_introduced : goal.commanded-returns-then-is_introduced
+commanded-returns-then-is_introduced t c =
+    gives_introduced (readers c.args.inside c.args.depth) c.args.self.now c.args.words.now c.in_default.ensures c.listed.new.self c.listed.result (sym c.is_introduced.ensures ∙ c.if-is_introduced.true) c.listed.ensures
+
+pub rights-returns : goal.rights-returns
+rights-returns t c =
+    gives_rights (readers c.args.inside c.args.depth) c.args.self.now c.args.words.now c.in_default.ensures c.postfix.new.self c.behind_receiver.new.self _ _ c.behind_receiver.result (sym c.is_prefixed.ensures ∙ c.if-is_prefixed.false)
+    c.in_ok-operand.ensures c.behind_receiver.ensures
+
+pub simple-returns-in_err-operand : goal.simple-returns-in_err-operand
+simple-returns-in_err-operand t c =
+    let p = err_from_is_err_and c.from_residual-in_err-operand.result c.from_residual-in_err-operand.ensures.1 in
+    rw (p.1, p.2) (fails_simple (readers c.args.inside c.args.depth) c.args.self.now c.args.words.now c.in_default.ensures _ (sym c.is_led.ensures ∙ c.if-is_led.false) c.in_err-operand.ensures)
+
+pub commanded-returns-in_err-operand : goal.commanded-returns-in_err-operand
+commanded-returns-in_err-operand t c =
+    let p = err_from_is_err_and c.from_residual-in_err-operand.result c.from_residual-in_err-operand.ensures.1 in
+    rw (p.1, p.2) (fails_first_operand (readers c.args.inside c.args.depth) c.args.self.now c.args.words.now c.in_default.ensures _ (sym c.is_introduced.ensures ∙ c.if-is_introduced.false) c.in_err-operand.ensures)
+
+pub rights-returns-in_err-operand : goal.rights-returns-in_err-operand
+rights-returns-in_err-operand t c =
+    let p = err_from_is_err_and c.from_residual-in_err-operand.result c.from_residual-in_err-operand.ensures.1 in
+    rw (p.1, p.2) (fails_rights (readers c.args.inside c.args.depth) c.args.self.now c.args.words.now c.in_default.ensures _ (sym c.is_prefixed.ensures ∙ c.if-is_prefixed.false) c.in_err-operand.ensures)
