@@ -14,8 +14,10 @@ pub mod Unwind
 pub mod Entered
 pub mod Quickly
 pub mod QuickParts
+pub mod QuickAttributes
 pub mod QuickCalls
 pub mod QuickSends
+pub mod QuickTasks
 pub mod QuickRequests
 pub mod Finishing
 pub mod Bytes

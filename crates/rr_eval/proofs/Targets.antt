@@ -1,5 +1,5 @@
 -- Several targets get their values.
-use Rattle.std.proofs.Common.{◌≡◌, ℕ, zero, suc, ◌+◌, ◌-◌, ◌<◌, ◌∙◌, sym, ap, refl, arith, List, [], ◌∷◌, ◌++◌, length, drop, slice_index_or, Option, Some, None}
+use Rattle.std.proofs.Common.{◌≡◌, ℕ, zero, suc, ◌+◌, ◌-◌, ◌<◌, ◌≤◌, ◌⊎◌, inl, inr, ◌∙◌, sym, ap, refl, arith, List, [], ◌∷◌, ◌++◌, length, drop, slice_index_or, Option, Some, None}
 use Rattle.std.proofs.lemmas.List.{drop-drop}
 use Rattle.rr_frames.specs.Frames.{Stack}
 use Rattle.rr_space.specs.declared.refer.Ref.{Ref}
@@ -126,3 +126,14 @@ next_at (v ∷ vs) (suc place) = next_at vs place
 -- the values from the next place on
 pub behind_next : (vs : List Ref) (place : ℕ) → drop (place + 1) vs ≡ drop 1 (drop place vs)
 behind_next vs place = sym (drop-drop 1 place vs)
+
+-- where each target behind one is a variable, and that one is too
+pub variables_more : (ns : List Node) (end left count k place : ℕ) (x : Variable) → place ≡ end - left → variable_of (tree_at ns place) ≡ Some x → ((j : ℕ) → left < j → j ≤ count → variable_of (tree_at ns (end - j)) ≡ None → ⊥)
+    → (left ≡ k) ⊎ (left < k) → k ≤ count → variable_of (tree_at ns (end - k)) ≡ None → ⊥
+variables_more ns end left count k place x at is others (inl same) le none = cc (sym is ∙ ap (λ i. variable_of (tree_at ns i)) (at ∙ ap (λ j. end - j) same) ∙ none)
+variables_more ns end left count k place x at is others (inr less) le none = others k less le none
+
+-- none is left that is no variable
+pub none_left : (n : ℕ) → (0 < n → ⊥) → n ≡ 0
+none_left zero never = refl
+none_left (suc n) never = absurd (never (omega arith))

@@ -4,7 +4,9 @@ use Rattle.std.proofs.lemmas.List.{take-append-le, drop-append-le}
 use Rattle.rr_base.specs.declared.name.Sym.{Sym}
 use Rattle.rr_frames.specs.Frames.{list_of}
 use Rattle.rr_space.specs.declared.refer.Ref.{Ref}
-use Rattle.rr_tree.specs.Tree.{Tree, tree_at, index, send}
+use Rattle.rr_space.specs.Tables.{Table}
+use Rattle.rr_tree.specs.Tree.{Tree, tree_at, constant, index, send}
+use Rattle.rr_tree.specs.declared.node.Path.TheVariants.{Plain}
 use Rattle.rr_tree.specs.declared.node.BinaryOperator.{BinaryOperator}
 use Rattle.rr_tree.specs.declared.node.Node.{Node}
 use Rattle.rr_tree.specs.declared.node.Node.TheVariants as nodes
@@ -16,8 +18,9 @@ use Rattle.rr_eval.specs.declared.frame.Frame.{Frame}
 use Rattle.rr_eval.specs.declared.frame.Frame.TheVariants.{Argument, Read}
 use Rattle.rr_eval.specs.declared.updating.Updating.{Updating}
 use Rattle.rr_eval.specs.Frames.{runs_in, resumed, stand_of, below_of, unwind}
-use Rattle.rr_eval.specs.Turns.{context_of, code_of}
+use Rattle.rr_eval.specs.Turns.{context_of, code_of, state_of}
 use Rattle.rr_tree.specs.declared.program.Program.{Program}
+use Rattle.rr_eval.specs.declared.problem.Answer.TheVariants.{Gave}
 use Rattle.rr_eval.specs.declared.problem.Problem.TheVariants.{NotHere}
 use Rattle.rr_eval.specs.declared.updating.Place.{Place}
 use Rattle.rr_eval.specs.declared.updating.Place.TheVariants as places
@@ -27,11 +30,14 @@ use Rattle.rr_eval.specs.Context.{Context}
 use Rattle.rr_eval.specs.Basics.{on_value, with_value, values, not_here}
 use Rattle.rr_eval.specs.Nodes.{evaluated_tree, IsEvaluated}
 use Rattle.rr_eval.specs.Rules.{finish}
-use Rattle.rr_eval.specs.Script.{State, World, Script, Evaluate, CallPart, Go}
-use Rattle.rr_eval.specs.Updating.{sent_first, put, put_unless, updated, accessed, access_rule, operator_rule, update_rule}
+use Rattle.rr_eval.specs.Script.{State, World, Script, Evaluate, CallPart, Go, Ret}
+use Rattle.rr_eval.specs.Updating.{sent_first, place_of, put, put_unless, updated, accessed, access_rule, operator_rule, update_rule, or_rule}
 use Rattle.rr_eval.proofs.Keeping.{Keeps, on_value_keeps, settled_keeps, throw_keeps}
 use Rattle.rr_eval.proofs.Dispatching.{send_keeps}
+use Rattle.rr_eval.specs.Usual.{TakesNow, ComesTo}
+use Rattle.rr_eval.specs.View.{View}
 use Rattle.rr_eval.proofs.Mains.{set_global_keeps}
+use Rattle.rr_eval.proofs.QuickParts.{part_comes}
 
 -- they take no object away
 sent_first_keeps : (c : Context) (callee : Callee) (vs : List Ref) → Keeps (sent_first c callee vs)
@@ -123,3 +129,22 @@ no_access ns c how (nodes.Index x0 x1) b no_index no_send used = absurd (no_inde
 no_access ns c how (nodes.Send x0 x1 x2 x3 x4) b no_index no_send used = absurd (no_send x0 x1 x2 x3 x4 refl)
 no_access ns c how (nodes.Item x0) b no_index no_send used = absurd used
 no_access ns c how _ b no_index no_send used = refl
+
+abbrev placed : Place → Option Place → Place
+placed other None = other
+placed other (Some place) = place
+
+-- a variable that is true stays, as `||=` leaves it
+or_is : (c : Context) (a b : Tree) (place : Place) → place_of a ≡ Some place → ((x : Sym) → place ≡ places.Constant x → ⊥) → or_rule c a b ≡ with_value a (updated updates.Or b (put c place []))
+or_is c (constant (Plain x)) b place is other = absurd (other x (sym (ap (placed place) is)))
+or_is c a b place is other = ap (update_rule c updates.Or a b) is
+
+pub or_leaves : (p : Program) (m : View) (t : Table) (a b : Tree) (place : Place) (script : Script) (steps : ℕ) (v : Ref) → script ≡ or_rule (context_of p) a b → place_of a ≡ Some place → ((x : Sym) → place ≡ places.Constant x → ⊥)
+    → TakesNow p m t a steps v → is_truthy v ≡ true → ComesTo p m t script steps (Ret (Gave v))
+or_leaves p m t a b place script steps v is known other takes truthy = λ h n.
+    let own = context_of p in
+    let code = code_of p h.world in
+    let assign = put own place [] in
+    ap (λ r. runs_in code r (state_of p m t h) (steps + n)) (is ∙ or_is own a b place known other)
+    ∙ part_comes p m t a steps v (on_value (updated updates.Or b assign)) takes h n
+    ∙ ap (λ there. runs_in code (put_unless there b assign v) (state_of p m t h) n) truthy

@@ -1,22 +1,27 @@
 -- Parts whose value needs no frame.
 use Rattle.std.specs.Prelude.{◌≡◌, ◌+◌, ◌-◌, ◌++◌, ◌∷◌, ℕ, List, Some, None, false, length, slice_get, take}
 use Rattle.rr_parser.specs.Grammar.Names.{is_splat}
+use Rattle.std.specs.Option.{option_map}
+use Rattle.rr_base.specs.declared.name.Sym.{Sym}
 use Rattle.rr_space.specs.Tables.{Table}
 use Rattle.rr_space.specs.declared.refer.Ref.{Ref}
 use Rattle.rr_tree.specs.Tree.{Tree}
 use Rattle.rr_tree.specs.declared.program.Program.{Program}
 use Rattle.rr_eval.specs.declared.call.Callee.{Callee}
+use Rattle.rr_eval.specs.declared.call.Callee.TheVariants.{Setter}
 use Rattle.rr_eval.specs.declared.call.Target.TheVariants.{Call}
 use Rattle.rr_eval.specs.declared.frame.Frame.{Frame}
 use Rattle.rr_eval.specs.declared.problem.Answer.TheVariants.{Gave}
+use Rattle.rr_eval.specs.Basics.{settled}
 use Rattle.rr_eval.specs.Callees.{method_of}
 use Rattle.rr_eval.specs.Context.{Context}
 use Rattle.rr_eval.specs.Dispatch.{made_by, method_for}
 use Rattle.rr_eval.specs.Frames.{Code, means, runs_in}
 use Rattle.rr_eval.specs.Joins.{joined_by}
+use Rattle.rr_eval.specs.Methods.{Writes}
 use Rattle.rr_eval.specs.Requests.{Course}
-use Rattle.rr_eval.specs.Rules.{arguments, finish}
-use Rattle.rr_eval.specs.Script.{State, Script, Ended}
+use Rattle.rr_eval.specs.Rules.{arguments, values, finish}
+use Rattle.rr_eval.specs.Script.{State, Script, Asked, Ask, Ended}
 use Rattle.rr_eval.specs.Turns.{context_of, code_of, state_of, after_answer, after_values}
 use Rattle.rr_eval.specs.View.{View}
 
@@ -42,6 +47,11 @@ abbrev pub TakeFirst : Program → View → Table → List Tree → ℕ → List
 TakeFirst p m t trees steps vs others =
     (stand : List Ref) (next : List Ref → Script) → ComesTo p m t (arguments (context_of p) trees stand next) steps (arguments (context_of p) others (stand ++ vs) next)
 
+-- the same of parts none of which is spread
+abbrev pub ValuesFirst : Program → View → Table → List Tree → ℕ → List Ref → List Tree → Type 0
+ValuesFirst p m t trees steps vs others =
+    (stand : List Ref) (next : List Ref → Script) → ComesTo p m t (values trees stand next) steps (values others (stand ++ vs) next)
+
 -- more values are held, behind those that were, and all else is as it was
 pub record HoldsMore (old new : View) : Type 0 where
   pub control : new.control ≡ old.control
@@ -63,6 +73,11 @@ pub record IsAskedFor (c : Context) (t : Table) (callee : Callee) (v : Ref) : Ty
   pub method : method_for c t v callee ≡ None
   pub makes : made_by c (method_of c callee) v ≡ None
 
+-- an assignment to an attribute of an object is one to its instance variable
+pub record WritesField (c : Context) (t : Table) (x : Sym) (v : Ref) (field : Sym) : Type 0 where
+  pub joins : joined_by c t (Setter x) v ≡ None
+  pub method : option_map (λ f. f.work) (method_for c t v (Setter x)) ≡ Some (Writes field)
+
 -- a script evaluates two trees, of which the second is no splat, and goes on with their values, where both leave all as it is
 abbrev pub TakesTwo : Program → Script → Tree → Tree → (Ref → Ref → Script) → Type 0
 TakesTwo p script a b next =
@@ -72,3 +87,8 @@ TakesTwo p script a b next =
 abbrev pub GoesOnAsCall : Program → View → Table → Frame → Ref → ℕ → Callee → Ref → List Ref → Type 0
 GoesOnAsCall p m t f x steps callee v vs =
     (fs : List Frame) (h : Course) (n : ℕ) → after_answer p (record m { frames = fs }) t f (Gave x) h (steps + n) ≡ after_values p (record m { frames = fs }) t f (finish (context_of p) (Call callee) (v ∷ vs)) h n
+
+-- a frame that gets a value goes on with a request, behind so many steps, whatever frames lie below it
+abbrev pub GoesOnAsking : Program → View → Table → Frame → Ref → ℕ → Asked → Type 0
+GoesOnAsking p m t f x steps q =
+    (fs : List Frame) (h : Course) (n : ℕ) → after_answer p (record m { frames = fs }) t f (Gave x) h (steps + n) ≡ after_values p (record m { frames = fs }) t f (Ask q (settled (context_of p))) h n

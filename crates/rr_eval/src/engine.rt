@@ -328,6 +328,11 @@ impl Engine {
             if let Some(request) = self.ask_often(prepared, space, stop) {
                 return Ok(Turn::Ask(request));
             }
+            if self.may_ask(prepared)
+                && let Some(request) = self.ask_rarely(prepared, space, stop)
+            {
+                return Ok(Turn::Ask(request));
+            }
             if let Some(turn) = self.act(prepared, space, stop)? {
                 return Ok(turn);
             }

@@ -161,6 +161,8 @@ impl Engine {
             0 => Ok(Some(Request::Do(task, Arguments::Without))),
             _ => {
                 self.frames.reserve(1)?;
+                // So that the next list of as many parts finds room for its values.
+                self.held.reserve(count as usize)?;
                 let frame = Frame::Item(
                     Target::Do(task),
                     first + count,

@@ -34,7 +34,11 @@ use rr_tree::{NodeId, Program};
 use std::alloc::{AllocError, Global};
 
 /// What the right side gives to the targets, where no published element that is not known is among it.
-fn right_values(alloc: Global, space: &Space, value: Ref) -> Result<Option<Vec<Ref>>, AllocError>
+pub fn right_values(
+    alloc: Global,
+    space: &Space,
+    value: Ref,
+) -> Result<Option<Vec<Ref>>, AllocError>
     ensures are { IfOk result (λ values. option_map (λ vs. vs.items) values ≡ right_values space.now value) }
     ensures within { (clusters : Option Below) → IsReached (reach (length space.now.slots) clusters) value → IfOk result (λ values. IfSome values (λ vs. All (IsReached (reach (length space.now.slots) clusters)) vs.items)) }
 {
@@ -64,7 +68,7 @@ fn hold_right(held: &mut Vec<Ref>, right: Ref, values: &[Ref]) -> Result<(), All
 
 /// Gives the last `count` targets before `end` the values from a place on, from left to right, up to one that is no variable: how many
 /// are left, and the place of the next value.
-fn assign_variables(
+pub fn assign_variables(
     calls: &mut CallStack,
     program: &Program,
     end: NodeId,
@@ -73,6 +77,7 @@ fn assign_variables(
     first: usize,
 ) -> (u32, usize)
     ensures goes { (w : World) (ps : List Ref) (right : Ref) (s : State) (n : ℕ) → runs_in (code_of program.now w) (assign_each (context_of program.now) (trees_before program.now.nodes.items end count) ps (drop first stand.now) right) (record s { memory = record s.memory { calls = calls.old } }) n ≡ runs_in (code_of program.now w) (assign_each (context_of program.now) (trees_before program.now.nodes.items end result.0) ps (drop result.1 stand.now) right) (record s { memory = record s.memory { calls = calls.new } }) n }
+    ensures fewer { result.0 ≤ count }
     ensures other { 0 < result.0 → variable_of (tree_at program.now.nodes.items (end - result.0)) ≡ None }
     ensures within { (k : Reach) → All (IsReached k) stand.now → All (AreVariablesReached k) calls.old.frames → All (AreVariablesReached k) calls.new.frames }
 {

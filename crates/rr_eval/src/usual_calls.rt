@@ -106,7 +106,7 @@ impl Engine {
 
     /// Whether there is room for so many values more.
     #[inline(always)]
-    fn holds(&self, count: u32) -> bool
+    pub(crate) fn holds(&self, count: u32) -> bool
         ensures { IsTrue result → length self.now.held.items + count ≤ vec_capacity self.now.held }
     {
         self.held.capacity().saturating_sub(self.held.len()) >= count as usize

@@ -16,9 +16,9 @@ ghost use Rattle.rr_eval.specs.Dispatch.{operation, send_rule};
 ghost use Rattle.rr_eval.specs.Frames.{below_of};
 ghost use Rattle.rr_eval.specs.Requests.{Course, arguments_of, asked_of};
 ghost use Rattle.rr_eval.specs.Rules.{finish};
-ghost use Rattle.rr_eval.specs.Script.{Calls};
+ghost use Rattle.rr_eval.specs.Script.{Asked, Calls};
 ghost use Rattle.rr_eval.specs.Turns.{context_of, IsNested, remaining, after_answer, after_values, asking_then, power, size, sized};
-ghost use Rattle.rr_eval.specs.Usual.{GoesOnAsCall, IsAskedFor, IsTop};
+ghost use Rattle.rr_eval.specs.Usual.{GoesOnAsCall, GoesOnAsking, IsAskedFor, IsTop};
 ghost use Rattle.rr_eval.specs.View.{View};
 ghost use Rattle.rr_eval.specs.Views.{view_of};
 ghost use Rattle.rr_eval.specs.Within.{Reach, reach, IsReached, IsRequestReached, AreReached};
@@ -65,7 +65,7 @@ impl Engine {
     /// Takes the topmost frame, which waited for this value, off the stack, and the values that stand for it. The steps of what is
     /// evaluated behind it are spent.
     #[inline(always)]
-    fn take_waiting(&mut self, frame: Frame, base: usize, value: Ref, steps: u64)
+    pub(crate) fn take_waiting(&mut self, frame: Frame, base: usize, value: Ref, steps: u64)
         requires control { self.old.control ≡ Control.Give (Answers.Gave value) }
         requires top { IsTop self.old.frames.items frame }
         requires below { (held : List Ref) → below_of frame held ≡ take base held }
@@ -73,6 +73,8 @@ impl Engine {
         requires nested { IsNested (view_of self.old) }
         ensures goes { (p : Program) (t : Table) (callee : Called) (v : Ref) (vs : List Ref) → GoesOnAsCall p (view_of self.old) t frame value steps callee v vs → IsAskedFor (context_of p) t callee v
             → (h : Course) → remaining p (view_of self.old) t h ≡ asking_then p (view_of self.new) t (Calls v callee vs) h }
+        ensures asks { (p : Program) (t : Table) (q : Asked) → GoesOnAsking p (view_of self.old) t frame value steps q
+            → (h : Course) → remaining p (view_of self.old) t h ≡ asking_then p (view_of self.new) t q h }
         ensures nested { IsNested (view_of self.new) }
         ensures within { (k : Reach) → AreReached k (view_of self.old) → AreReached k (view_of self.new) }
         ensures left { self.new.left + steps ≡ self.old.left }
@@ -279,6 +281,8 @@ impl Engine {
                 Some(self.ask_field(name, value))
             }
             Some(&Frame::Right(op, left)) => self.ask_operator(prepared, space, op, left, value),
+            // Attributes are asked for with what is asked less often.
+            Some(&Frame::Put(Place::Sent(Callee::Setter(_)), _)) => None,
             Some(&Frame::Put(Place::Sent(callee), base)) => {
                 self.ask_put(prepared, space, callee, base, value)
             }

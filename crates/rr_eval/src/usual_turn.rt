@@ -334,6 +334,10 @@ impl Engine {
             | Frame::Assigned(_)
             | Frame::Read(_)
             | Frame::Combine(_) => self.resume_silently(&prepared.program, space, frame, value),
+            Frame::Several(end, count, base) => {
+                let program = &prepared.program;
+                return self.resume_variables(program, space, end, count, base, value);
+            }
             _ => return false,
         }
         true
@@ -459,7 +463,7 @@ impl Engine {
                     && self.frames.len() < self.frames.capacity()
                     && self.visit_often(prepared, space, here, stop)
             }
-            Control::Send(_, _, _) => self.operate_sent(stop),
+            Control::Send(_, _, _) => self.operate_sent(prepared, space, stop),
             _ => false,
         }
     }

@@ -1,8 +1,10 @@
 //! Assignments with an operator, as they begin in a usual way; where `x` is a local variable or an instance variable of `self`, `x += y` goes
 //! on at once.
 
-ghost use Rattle.std.specs.Prelude.{◌≡◌, ◌+◌, ◌*◌, ◌<◌, ◌≤◌, ℕ, [], ◌∷◌, length, vec_capacity, Option, Some, IfSome, IsTrue, IsFalse};
+ghost use Rattle.std.specs.Prelude.{◌≡◌, ◌+◌, ◌*◌, ◌<◌, ◌≤◌, ℕ, true, [], ◌∷◌, length, vec_capacity, Option, Some, IfSome, IsTrue, IsFalse};
 ghost use Rattle.rr_space.specs.Tables.{Below, Table};
+ghost use Rattle.rr_space.specs.declared.refer.Ref.{Ref as Reference};
+ghost use Rattle.rr_builtin.specs.Objects.{is_truthy};
 ghost use Rattle.rr_tree.specs.Tree.{binary, tree_at};
 ghost use Rattle.rr_tree.specs.declared.program.Program.{Program};
 ghost use Rattle.rr_tree.specs.declared.node.Node.{Node};
@@ -10,14 +12,16 @@ ghost use Rattle.rr_eval.specs.declared.call.Callee.{Callee as Called};
 ghost use Rattle.rr_eval.specs.declared.call.Target.{Target};
 ghost use Rattle.rr_eval.specs.declared.frame.Control.{Control as Controls};
 ghost use Rattle.rr_eval.specs.declared.frame.Frame.{Frame as Frames};
+ghost use Rattle.rr_eval.specs.declared.problem.Answer.{Answer as Answers};
 ghost use Rattle.rr_eval.specs.declared.updating.Update.{Update as Updates};
 ghost use Rattle.rr_eval.specs.Frames.{resumed, IsNew};
 ghost use Rattle.rr_eval.specs.Nodes.{evaluated_tree};
 ghost use Rattle.rr_eval.specs.Requests.{Course};
 ghost use Rattle.rr_eval.specs.Rules.{rule, values, finish};
-ghost use Rattle.rr_eval.specs.Script.{Go, World};
+ghost use Rattle.rr_eval.specs.Script.{Go, Ret, World};
 ghost use Rattle.rr_eval.specs.Turns.{context_of, code_of, IsNested, after_script, remaining, remaining_with, power, size};
-ghost use Rattle.rr_eval.specs.Usual.{TakesNow};
+ghost use Rattle.rr_eval.specs.Usual.{TakesNow, ComesTo};
+ghost use Rattle.rr_eval.specs.View.{View};
 ghost use Rattle.rr_eval.specs.Views.{view_of};
 ghost use Rattle.rr_eval.specs.Within.{Reach, reach, IsReached, IsFrameReached, AreReached};
 
@@ -26,9 +30,11 @@ use crate::call_stack::Variable;
 use crate::engine::{Engine, push_within};
 use crate::frame::{Control, Frame};
 use crate::prepared::Prepared;
+use crate::problem::Answer;
 use crate::updating::{Place, Update, Updating};
 use crate::usual::{Quick, operated};
-use rr_space::Space;
+use rr_builtin::is_truthy;
+use rr_space::{Ref, Space};
 use rr_tree::{BinaryOperator, Node, NodeId};
 
 impl Engine {
@@ -302,40 +308,131 @@ impl Engine {
                     self.update_any(prepared, here, op, target, value, stop);
                 }
             }
+            Some(&Node::Send { receiver, name, .. }) => {
+                if !self.update_attribute(prepared, space, here, op, receiver, name, value, stop) {
+                    self.update_any(prepared, here, op, target, value, stop);
+                }
+            }
             _ => self.update_any(prepared, here, op, target, value, stop),
         }
     }
 
-    /// Does an operator that comes next as a call, where its operands are integers: it answers whether it did.
-    #[cold]
-    #[inline(never)]
-    pub fn operate_sent(&mut self, stop: u64) -> bool
-        requires within { stop ≤ self.old.left }
+    /// Leaves a variable that is true, as an assignment to it does that is made unless it is: it answers whether it did.
+    #[inline(always)]
+    fn leave_true(
+        &mut self,
+        prepared: &Prepared,
+        space: &Space,
+        here: NodeId,
+        target: NodeId,
+        stop: u64,
+    ) -> bool
+        requires control { self.old.control ≡ Controls.Enter here }
+        requires leaves { (m : View) (t : Table) (steps : ℕ) (v : Reference) → TakesNow prepared.now.program m t (tree_at prepared.now.program.nodes.items target) steps v → is_truthy v ≡ true → ComesTo prepared.now.program m t (rule (context_of prepared.now.program) (tree_at prepared.now.program.nodes.items here)) steps (Ret (Answers.Gave v)) }
+        requires some { stop < self.old.left }
         requires nested { IsNested (view_of self.old) }
-        ensures goes { (p : Program) (t : Table) (h : Course) → remaining p (view_of self.old) t h ≡ remaining p (view_of self.new) t h }
+        ensures goes { IsTrue result → (h : Course) → remaining prepared.now.program (view_of self.old) space.now h ≡ remaining prepared.now.program (view_of self.new) space.now h }
         ensures nested { IsNested (view_of self.new) }
-        ensures within { (k : Reach) → AreReached k (view_of self.old) → AreReached k (view_of self.new) }
+        ensures within { (clusters : Option Below) → AreReached (reach (length space.now.slots) clusters) (view_of self.old) → AreReached (reach (length space.now.slots) clusters) (view_of self.new) }
         ensures left { stop ≤ self.new.left }
         ensures kept { self.new.left ≤ self.old.left }
         ensures spends { IsTrue result → self.new.left < self.old.left }
         ensures falls { power (view_of self.new) + self.old.left ≤ power (view_of self.old) + self.new.left }
+        ensures same { IsFalse result → self.new ≡ self.old }
     {
-        let Control::Send(callee, left, argument) = self.control else {
+        let Some(found) = self.quick_before(prepared, space, target, stop) else {
             return false;
         };
-        let Callee::Operator(op) = callee else {
+        if !is_truthy(found.value) {
             return false;
-        };
+        }
+        self.left = self.left - found.steps - 1;
+        self.control = Control::Give(Answer::Gave(found.value));
+        true
+    }
+
+    /// Evaluates `x ||= y`, where `x` is a local variable or an instance variable that is true: it answers whether it was done.
+    #[inline(always)]
+    pub fn visit_or(
+        &mut self,
+        prepared: &Prepared,
+        space: &Space,
+        here: NodeId,
+        target: NodeId,
+        part: NodeId,
+        stop: u64,
+    ) -> bool
+        requires control { self.old.control ≡ Controls.Enter here }
+        requires tree { tree_at prepared.now.program.nodes.items here ≡ evaluated_tree prepared.now.program.nodes.items (Node.OrAssign target part) }
+        requires some { stop < self.old.left }
+        requires nested { IsNested (view_of self.old) }
+        ensures goes { IsTrue result → (h : Course) → remaining prepared.now.program (view_of self.old) space.now h ≡ remaining prepared.now.program (view_of self.new) space.now h }
+        ensures nested { IsNested (view_of self.new) }
+        ensures within { (clusters : Option Below) → AreReached (reach (length space.now.slots) clusters) (view_of self.old) → AreReached (reach (length space.now.slots) clusters) (view_of self.new) }
+        ensures left { stop ≤ self.new.left }
+        ensures kept { self.new.left ≤ self.old.left }
+        ensures spends { IsTrue result → self.new.left < self.old.left }
+        ensures falls { power (view_of self.new) + self.old.left ≤ power (view_of self.old) + self.new.left }
+        ensures same { IsFalse result → self.new ≡ self.old }
+    {
+        match prepared.node(target) {
+            Some(&Node::Local { .. }) => self.leave_true(prepared, space, here, target, stop),
+            Some(&Node::Field(_)) => self.leave_true(prepared, space, here, target, stop),
+            _ => false,
+        }
+    }
+
+    /// Does an operator that comes next as a call, where its operands are integers: it answers whether it did.
+    #[inline(always)]
+    fn operate_both(&mut self, op: BinaryOperator, left: Ref, argument: Option<Ref>) -> bool
+        requires control { self.old.control ≡ Controls.Send (Called.Operator op) left argument }
+        requires some { 0 < self.old.left }
+        requires nested { IsNested (view_of self.old) }
+        ensures goes { (p : Program) (t : Table) (h : Course) → remaining p (view_of self.old) t h ≡ remaining p (view_of self.new) t h }
+        ensures nested { IsNested (view_of self.new) }
+        ensures within { (k : Reach) → AreReached k (view_of self.old) → AreReached k (view_of self.new) }
+        ensures left { self.old.left ≤ self.new.left + 1 }
+        ensures kept { self.new.left ≤ self.old.left }
+        ensures spends { IsTrue result → self.new.left < self.old.left }
+        ensures falls { power (view_of self.new) + self.old.left ≤ power (view_of self.old) + self.new.left }
+    {
         let Some(right) = argument else {
             return false;
         };
-        if self.left <= stop {
-            return false;
-        }
         if !self.operate_integers(op, left, right) {
             return false;
         }
         self.left -= 1;
         true
+    }
+
+    /// Does a call that comes next where it is an operator on integers, or reads an attribute: it answers whether it did.
+    #[cold]
+    #[inline(never)]
+    pub fn operate_sent(&mut self, prepared: &Prepared, space: &Space, stop: u64) -> bool
+        requires within { stop ≤ self.old.left }
+        requires nested { IsNested (view_of self.old) }
+        ensures goes { (h : Course) → remaining prepared.now.program (view_of self.old) space.now h ≡ remaining prepared.now.program (view_of self.new) space.now h }
+        ensures nested { IsNested (view_of self.new) }
+        ensures within { (clusters : Option Below) → AreReached (reach (length space.now.slots) clusters) (view_of self.old) → AreReached (reach (length space.now.slots) clusters) (view_of self.new) }
+        ensures left { stop ≤ self.new.left }
+        ensures kept { self.new.left ≤ self.old.left }
+        ensures spends { IsTrue result → self.new.left < self.old.left }
+        ensures falls { power (view_of self.new) + self.old.left ≤ power (view_of self.old) + self.new.left }
+    {
+        if self.left <= stop {
+            return false;
+        }
+        let Control::Send(callee, receiver, argument) = self.control else {
+            return false;
+        };
+        match callee {
+            Callee::Operator(op) => self.operate_both(op, receiver, argument),
+            Callee::Name(name) => match argument {
+                None => self.read_sent(prepared, space, name, receiver, stop),
+                Some(_) => false,
+            },
+            _ => false,
+        }
     }
 }

@@ -365,6 +365,20 @@ impl Engine {
             return true;
         }
         let node = evaluated_node(&prepared.program, here);
+        if let Node::MultipleAssign {
+            first,
+            count,
+            value,
+        } = node
+        {
+            self.visit_several(&prepared.program, here, first, count, value, stop);
+            return true;
+        }
+        if let Node::OrAssign(target, part) = node
+            && self.visit_or(prepared, space, here, target, part, stop)
+        {
+            return true;
+        }
         self.visit_first(prepared, space, here, node, stop)
     }
 

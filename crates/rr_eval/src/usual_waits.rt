@@ -231,7 +231,11 @@ impl Engine {
             &Node::Index(_, _)
             | &Node::Append(_, _)
             | &Node::SetIndex { .. }
-            | &Node::SetAttribute { .. } => return false,
+            | &Node::SetAttribute { .. }
+            | &Node::Text(_)
+            | &Node::Array { .. }
+            | &Node::Interpolation { .. }
+            | &Node::Hash { .. } => return false,
             &Node::Rescue {
                 body,
                 first,

@@ -23,7 +23,9 @@ loop-left-preserved c =
     let old = c.loop-left.calls in
     let new = c.write.new.self in
     let some : 0 < left = omega (arith, c.loop-left-test.true) in
+    let fewer = c.loop-left.invariant.fewer in
     record {
+      fewer = omega (arith, fewer);
       goes = λ w ps right s n. c.loop-left.invariant.goes w ps right s n
           ∙ variable_assigned (code_of p w) c.args.end c.saturating_sub.result left ps (drop c.loop-left.place stand) (drop c.next_value-behind.result.1 stand) right value x old new s n some c.saturating_sub.ensures (sym c.in-Some.is ∙ c.variable_of.ensures) c.next_value-behind.ensures.value c.next_value-behind.ensures.behind c.write.ensures.frames c.write.ensures.limit;
       reached = λ k values h. subst (All (AreVariablesReached k)) (sym c.write.ensures.frames) (written_within k old.frames x value (c.loop-left.invariant.reached k values h) (c.next_value-behind.ensures.within k values));

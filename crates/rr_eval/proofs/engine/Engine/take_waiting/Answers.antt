@@ -7,6 +7,7 @@ use Rattle.rr_eval.specs.Within.{AreReached}
 use Rattle.rr_eval.proofs.Holding.{with_left}
 use Rattle.rr_eval.proofs.QuickRequests.{asked_standing}
 use Rattle.rr_eval.proofs.QuickSends.{below_reached}
+use Rattle.rr_eval.proofs.QuickTasks.{standing_asked}
 use Rattle.rr_eval.proofs.Topmost.{taken_off, below_top}
 use Rattle.rr_eval.proofs.Unwind.{nested_pop}
 use Rattle.rr_eval.proofs.engine.Engine.take_waiting.Goals as goal
@@ -19,6 +20,15 @@ returns-clause-goes c p t callee v vs call asked h =
     let is = taken_off m.frames rest f c.saturating_sub-rest.result (omega arith) c.requires.top c.truncate.ensures.items in
     let below = c.truncate-2.ensures.items ∙ sym (c.requires.below m.held) in
     asked_standing p m t rest c.truncate-2.new.self.items f c.args.steps v c.args.value vs callee h c.requires.control is below c.requires.enough call asked
+
+pub returns-clause-asks : goal.returns-clause-asks
+returns-clause-asks c p t q goes h =
+    let m = view_of c.args.self.now in
+    let f = c.args.frame in
+    let rest = c.truncate.new.self.items in
+    let is = taken_off m.frames rest f c.saturating_sub-rest.result (omega arith) c.requires.top c.truncate.ensures.items in
+    let below = c.truncate-2.ensures.items ∙ sym (c.requires.below m.held) in
+    standing_asked p m t rest c.truncate-2.new.self.items f c.args.steps c.args.value q h c.requires.control is below c.requires.enough goes
 
 pub returns-clause-nested : goal.returns-clause-nested
 returns-clause-nested c =

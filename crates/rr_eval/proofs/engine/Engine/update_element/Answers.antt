@@ -1,7 +1,6 @@
 -- The element is read, over its receiver and its index.
 use Rattle.std.proofs.Common.{◌≡◌, ◌∙◌, ◌+◌, ◌-◌, ◌≤◌, ◌++◌, ◌∷◌, [], ap, arith, drop, length, refl, Some}
 use Rattle.std.proofs.Math.Seq.{drop-append_seam}
-use Rattle.rr_tree.specs.Tree.{tree_at}
 use Rattle.rr_eval.specs.declared.call.Callee.TheVariants.{Index, Operator, SetIndex}
 use Rattle.rr_eval.specs.declared.call.Target.{Target}
 use Rattle.rr_eval.specs.declared.call.Target.TheVariants as targets
