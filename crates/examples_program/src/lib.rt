@@ -94,6 +94,8 @@ mod usual_objects;
 #[cfg(test)]
 mod usual_requests;
 #[cfg(test)]
+mod usual_tasks;
+#[cfg(test)]
 mod usual_updates;
 #[cfg(test)]
 mod writers;
