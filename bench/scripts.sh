@@ -39,5 +39,9 @@ script("counters", "class Counter\n  def initialize\n    @count = 0\n  end\n  de
 script("tallies", "h = {a: 0, b: 0}\na = [0, 0]\ni = 0\nwhile i < 300000\n  h[:a] += 1\n  a[1] += i\n  i += 1\nend\nputs h[:a] + a[1]\n")
 script("constants", "LIMIT = 1000000\nSTEP = 1\ni = 0\nwhile i < LIMIT\n  i = i + STEP\nend\nputs i\n")
 script("equal", "t = :a\ns = 0\ni = 0\nwhile i < 500000\n  s = s + 1 if t == :a\n  i = i + 1\nend\nputs s\n")
+script("lists", "s = 0\ni = 0\nwhile i < 300000\n  a = [i, s, 1]\n  s = s + a[2]\n  i += 1\nend\nputs s\n")
+script("records", "s = 0\ni = 0\nwhile i < 200000\n  h = {left: i, right: 1}\n  s = s + h[:right]\n  i += 1\nend\nputs s\n")
+script("swaps", "a, b = 0, 1\ni = 0\nwhile i < 300000\n  a, b = b, (a + b) % 1000003\n  i += 1\nend\nputs a\n")
+script("points", "class Point\n  attr_accessor :x, :y\n  def initialize\n    @x = 0\n    @y = 0\n  end\nend\np = Point.new\ni = 0\nwhile i < 300000\n  p.x = i\n  p.y += p.x\n  i += 1\nend\nputs p.y\n")
 script("breaks", "s = 0\n20000.times { |i| 50.times { |j| break if j > 9\n s = s + i * j } }\nputs s\n")
 PY
