@@ -15,6 +15,15 @@ returns-in-Store-clause-within c clusters h frame value =
     let k = reach (length c.args.space.now.slots) clusters in
     c.store.ensures.within k h value
 
+pub returns-in-Branch-clause-goes : goal.returns-in-Branch-clause-goes
+returns-in-Branch-clause-goes c = λ _ h.
+    let t = c.args.space.now in
+    let p = c.args.prepared.now.program in
+    let m = view_of c.args.self.now in
+    ap (λ f. after_answer p m t f (Gave c.args.value) h m.left) c.in-Branch.is
+    ∙ c.take_branch.ensures.goes p t h m.left
+    ∙ ap (remaining_with p (view_of c.take_branch.new.self) t h) (sym c.take_branch.ensures.left)
+
 pub returns-in-Branch-clause-within : goal.returns-in-Branch-clause-within
 returns-in-Branch-clause-within c clusters h frame value =
     let k = reach (length c.args.space.now.slots) clusters in
