@@ -1,12 +1,10 @@
 //! Attributes whose methods only read and write an instance variable: an assignment to one is asked for in front of acts of any kind, and
 //! one that an operator assigns to is read at once.
 
-ghost use Rattle.std.specs.Prelude.{◌≡◌, ◌+◌, ◌*◌, ◌<◌, ◌≤◌, List, [], ◌∷◌, length, vec_capacity, Option, Some, IfSome, IfNone, IsTrue, IsFalse};
+ghost use Rattle.std.specs.Prelude.{◌≡◌, ◌+◌, ◌*◌, ◌<◌, ◌≤◌, [], ◌∷◌, length, vec_capacity, Option, Some, IfSome, IfNone, IsTrue, IsFalse};
 ghost use Rattle.std.specs.Option.{option_map};
-ghost use Rattle.rr_base.specs.declared.name.Sym.{Sym as Symbol};
 ghost use Rattle.rr_space.specs.Tables.{Below};
 ghost use Rattle.rr_tree.specs.Tree.{tree_at};
-ghost use Rattle.rr_tree.specs.declared.node.BinaryOperator.{BinaryOperator as Operators};
 ghost use Rattle.rr_eval.specs.declared.call.Callee.{Callee as Called};
 ghost use Rattle.rr_eval.specs.declared.call.Target.{Target as Aim};
 ghost use Rattle.rr_eval.specs.declared.frame.Control.{Control as Controls};
@@ -14,14 +12,14 @@ ghost use Rattle.rr_eval.specs.declared.frame.Frame.{Frame as Waiting};
 ghost use Rattle.rr_eval.specs.declared.problem.Answer.{Answer as Answers};
 ghost use Rattle.rr_eval.specs.declared.updating.Place.{Place as Places};
 ghost use Rattle.rr_eval.specs.declared.updating.Update.{Update as Updates};
-ghost use Rattle.rr_eval.specs.Methods.{Reads, Writes};
+ghost use Rattle.rr_eval.specs.Methods.{Reads};
 ghost use Rattle.rr_eval.specs.Dispatch.{method_for};
 ghost use Rattle.rr_eval.specs.Requests.{Course, asked_of};
 ghost use Rattle.rr_eval.specs.Rules.{rule, values, finish};
 ghost use Rattle.rr_eval.specs.Turns.{context_of, IsNested, remaining, asking_then, power, size, sized};
 ghost use Rattle.rr_eval.specs.Usual.{IsTop, WritesField};
 ghost use Rattle.rr_eval.specs.Views.{view_of};
-ghost use Rattle.rr_eval.specs.Within.{Reach, reach, IsReached, IsRequestReached, AreReached};
+ghost use Rattle.rr_eval.specs.Within.{Reach, reach, IsRequestReached, AreReached};
 
 use crate::call::{Arguments, Callee, Task};
 use crate::engine::Engine;
