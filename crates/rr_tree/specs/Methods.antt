@@ -1,7 +1,9 @@
 -- The methods of classes, and what calls them.
-use Rattle.std.specs.Prelude.{◌≡◌, ℕ, zero, suc, ◌+◌, ◌-◌, Bool, false, nat_eq, nat_lt, List, [], ◌∷◌, ◌++◌, length, map, filter, take, drop, position, codes, flat_map, Option, Some, None, option_map, slice_get, slice_index_or, if◌then◌else◌}
+use Rattle.std.specs.Prelude.{◌≡◌, ℕ, zero, suc, ◌+◌, ◌-◌, Bool, false, nat_eq, nat_lt, List, [], ◌∷◌, ◌++◌, length, map, filter, take, drop, position, codes, flat_map, Option, Some, None, option_map, slice_get, slice_index_or, IfSome, if◌then◌else◌}
 use Rattle.std.specs.Option.{option_or}
+use Rattle.std.specs.Borrow.{Bor}
 use Rattle.std.specs.Str.{bytes_eq}
+use Rattle.indexmap.specs.IndexMap.{get}
 use Rattle.rr_base.specs.Classes.{class_id}
 use Rattle.rr_base.specs.declared.class.BuiltInClass.TheVariants as built_in
 use Rattle.rr_base.specs.declared.name.Sym.{Sym}
@@ -14,6 +16,8 @@ use Rattle.rr_tree.specs.declared.method_table.Found.{Found}
 use Rattle.rr_tree.specs.declared.method_table.MethodName.{MethodName}
 use Rattle.rr_tree.specs.declared.method_table.MethodName.TheVariants as name
 use Rattle.rr_tree.specs.declared.method_table.MethodTable.{MethodTable}
+use Rattle.rr_tree.specs.declared.name_index.NameIndex.{NameIndex}
+use Rattle.rr_tree.specs.declared.name_index.Named.{Named}
 use Rattle.rr_tree.specs.declared.node.Node.{Node}
 use Rattle.rr_tree.specs.declared.program.Program.{Program}
 
@@ -55,6 +59,10 @@ attribute_named p bytes = if bytes_eq (drop (length bytes - 1) bytes) (codes "="
 abbrev pub attribute_of : Program → ℕ → Option ℕ
 attribute_of p x = attribute_named p (symbol_text p x)
 
+-- the method that assignments to this attribute call: the first name that has the attribute's bytes and `=` behind them
+abbrev pub writer_of : Program → ℕ → Option ℕ
+writer_of p x = symbol_named p (symbol_text p x ++ codes "=")
+
 -- whether the number is that of the name
 abbrev pub is_number : ℕ → Option ℕ → Bool
 is_number x (Some y) = nat_eq y x
@@ -65,11 +73,11 @@ abbrev pub is_called_by : Option ℕ → Option ℕ → MethodName → Bool
 is_called_by plain attribute (name.Plain x) = is_number x.0 plain
 is_called_by plain attribute (name.Setter x) = is_number x.0 attribute
 
--- whether this calls the method that a tree defines
+-- Whether this calls the method that a tree defines. `attr_writer :x` defines the method `x=`.
 abbrev pub calls : Program → MethodName → Tree → Bool
 calls p x (method y scope parameters size body) = is_called_by (Some y) (attribute_of p y) x
 calls p x (reader y) = is_called_by (Some y) None x
-calls p x (writer y) = is_called_by None (Some y) x
+calls p x (writer y) = is_called_by (writer_of p y) (Some y) x
 calls p x _ = false
 
 -- the definitions of what is called so, in order
@@ -146,6 +154,14 @@ Adds p old new ds = (x : MethodName) → kept_under p.nodes.items new x ≡ kept
 -- the table is the program's: under each name stand the definitions of what is called so
 abbrev pub IsTableOf : Program → MethodTable → Type 0
 IsTableOf p t = (x : MethodName) → kept_under p.nodes.items t x ≡ called p x (definitions_of p)
+
+-- an index finds each name by its bytes
+abbrev pub IsIndexOf : Program → NameIndex → Type 0
+IsIndexOf p i = (k : Bor (List ℕ)) → get (λ (x y : Bor (List ℕ)). bytes_eq x.now y.now) i.numbers k ≡ symbol_named p k.now
+
+-- names are found by an index, if there is one already
+abbrev pub IsNamedBy : Program → Named → Type 0
+IsNamedBy p n = IfSome n.index (IsIndexOf p)
 
 -- a found method, by its tree
 abbrev pub held_by : List Node → Found → Held

@@ -4,6 +4,7 @@
 mod ancestors;
 mod class;
 mod method_table;
+mod name_index;
 mod names;
 mod node;
 mod program;

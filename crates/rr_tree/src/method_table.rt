@@ -6,8 +6,9 @@ ghost use Rattle.rr_tree.specs.declared.method_table.MethodName.{MethodName as N
 ghost use Rattle.rr_tree.specs.declared.node.Node.{Node as TableNode};
 ghost use Rattle.rr_tree.specs.Nodes.{IsNoItem, node_tree, trees_in};
 ghost use Rattle.rr_tree.specs.Tree.{tree_at};
-ghost use Rattle.rr_tree.specs.Methods.{definition_at, standing_in, definitions_in, is_number, is_called_by, attribute_of, calls, has_name, belongs, last_in, own_method, nearest_method, number_in, entries_under, Adds, IsTableOf, held_by};
+ghost use Rattle.rr_tree.specs.Methods.{definition_at, standing_in, definitions_in, is_number, is_called_by, attribute_of, writer_of, calls, IsNamedBy, has_name, belongs, last_in, own_method, nearest_method, number_in, entries_under, Adds, IsTableOf, held_by};
 
+use crate::name_index::Named;
 use crate::node::{Node, NodeId};
 use crate::program::Program;
 use rr_base::{ClassId, Sym};
@@ -116,41 +117,71 @@ fn put_named(
     }
 }
 
+/// The attribute to which an assignment calls the method of this name: `x`, where the name is `x=`.
+fn attribute_of<'p>(
+    alloc: Global,
+    program: &'p Program,
+    named: &mut Named<'p>,
+    name: Sym,
+) -> Result<Option<Sym>, AllocError>
+    requires { IsNamedBy program.now named.old }
+    ensures attribute { IfOk result (λ a. number_in a ≡ attribute_of program.now name.0) }
+    ensures named { IsNamedBy program.now named.new }
+{
+    match program.symbol_bytes(name).strip_suffix(b"=".as_slice()) {
+        Some(front) => named.find(alloc, program, front),
+        None => Ok(None),
+    }
+}
+
+/// The name of the method that writes this attribute: `x=`, where the attribute is `x`.
+fn writer_of<'p>(
+    alloc: Global,
+    program: &'p Program,
+    named: &mut Named<'p>,
+    attribute: Sym,
+) -> Result<Option<Sym>, AllocError>
+    requires { IsNamedBy program.now named.old }
+    ensures name { IfOk result (λ name. number_in name ≡ writer_of program.now attribute.0) }
+    ensures named { IsNamedBy program.now named.new }
+{
+    let mut bytes = Vec::from_slice(alloc, program.symbol_bytes(attribute))?;
+    bytes.push(b'=')?;
+    named.find(alloc, program, &bytes)
+}
+
+/// What calls the method that a node defines.
+fn callers_of<'p>(
+    alloc: Global,
+    program: &'p Program,
+    named: &mut Named<'p>,
+    node: Node,
+) -> Result<Callers, AllocError>
+    requires { IsNamedBy program.now named.old }
+    ensures calls { IfOk result (λ c. IsNoItem node → (ns : List TableNode) → (x : Name) → calls program.now x (node_tree ns node) ≡ is_called_by (number_in c.name) (number_in c.attribute) x) }
+    ensures named { IsNamedBy program.now named.new }
+{
+    match node {
+        Node::Method { name, .. } => Ok(Callers {
+            name: Some(name),
+            attribute: attribute_of(alloc, program, named, name)?,
+        }),
+        Node::Reader(name) => Ok(Callers {
+            name: Some(name),
+            attribute: None,
+        }),
+        Node::Writer(attribute) => Ok(Callers {
+            name: writer_of(alloc, program, named, attribute)?,
+            attribute: Some(attribute),
+        }),
+        _ => Ok(Callers {
+            name: None,
+            attribute: None,
+        }),
+    }
+}
+
 impl Program {
-    /// The attribute to which an assignment calls the method of this name: `x`, where the name is `x=`.
-    fn attribute_of(&self, name: Sym) -> Option<Sym>
-        ensures { number_in result ≡ attribute_of self.now name.0 }
-    {
-        match self.symbol_bytes(name).strip_suffix(b"=".as_slice()) {
-            Some(front) => self.symbol_named(front),
-            None => None,
-        }
-    }
-
-    /// What calls the method that a node defines.
-    fn callers_of(&self, node: Node) -> Callers
-        ensures { IsNoItem node → (ns : List TableNode) → (x : Name) → calls self.now x (node_tree ns node) ≡ is_called_by (number_in result.name) (number_in result.attribute) x }
-    {
-        match node {
-            Node::Method { name, .. } => Callers {
-                name: Some(name),
-                attribute: self.attribute_of(name),
-            },
-            Node::Reader(name) => Callers {
-                name: Some(name),
-                attribute: None,
-            },
-            Node::Writer(attribute) => Callers {
-                name: None,
-                attribute: Some(attribute),
-            },
-            _ => Callers {
-                name: None,
-                attribute: None,
-            },
-        }
-    }
-
     /// Whether the class is a class of the program that has the name.
     fn has_name(&self, class: ClassId, name: Sym) -> bool
         ensures { result ≡ has_name self.now class.0 name.0 }
@@ -197,15 +228,24 @@ impl MethodTable {
             plain: Vec::new(alloc),
             setters: Vec::new(alloc),
         };
+        let mut named = Named::new();
         for number in 0..program.definitions.len() {
-            table.put_top(alloc, program, program.definitions[number])?;
+            table.put_top(alloc, program, &mut named, program.definitions[number])?;
         }
         Ok(table)
     }
 
     /// What stands at top level at a place, put behind the others.
-    fn put_top(&mut self, alloc: Global, program: &Program, place: NodeId) -> Result<(), AllocError>
-        ensures { OnOk result (Adds program.now self.old self.new (definitions_in (tree_at program.now.nodes.items place))) }
+    fn put_top<'p>(
+        &mut self,
+        alloc: Global,
+        program: &'p Program,
+        named: &mut Named<'p>,
+        place: NodeId,
+    ) -> Result<(), AllocError>
+        requires { IsNamedBy program.now named.old }
+        ensures named { IsNamedBy program.now named.new }
+        ensures adds { OnOk result (Adds program.now self.old self.new (definitions_in (tree_at program.now.nodes.items place))) }
     {
         let part = part_place(program, place);
         match program.node(part) {
@@ -214,42 +254,48 @@ impl MethodTable {
                 first,
                 count,
                 ..
-            } => self.put_members(alloc, program, name, first, count),
-            _ => self.put(alloc, program, None, part),
+            } => self.put_members(alloc, program, named, name, first, count),
+            _ => self.put(alloc, program, named, None, part),
         }
     }
 
     /// The definitions in the body of a class, put behind the others.
-    fn put_members(
+    fn put_members<'p>(
         &mut self,
         alloc: Global,
-        program: &Program,
+        program: &'p Program,
+        named: &mut Named<'p>,
         class: Sym,
         first: NodeId,
         count: u32,
     ) -> Result<(), AllocError>
         requires within { first + count ≤ length program.now.nodes.items }
         requires number { first + count < 2 ^ 32 }
-        ensures { OnOk result (Adds program.now self.old self.new (standing_in (Some class.0) (trees_in program.now.nodes.items first count))) }
+        requires named { IsNamedBy program.now named.old }
+        ensures named { IsNamedBy program.now named.new }
+        ensures adds { OnOk result (Adds program.now self.old self.new (standing_in (Some class.0) (trees_in program.now.nodes.items first count))) }
     {
         for number in 0..count {
-            self.put(alloc, program, Some(class), first + number)?;
+            self.put(alloc, program, named, Some(class), first + number)?;
         }
         Ok(())
     }
 
     /// The definition at a place, put behind the others.
-    fn put(
+    fn put<'p>(
         &mut self,
         alloc: Global,
-        program: &Program,
+        program: &'p Program,
+        named: &mut Named<'p>,
         class: Option<Sym>,
         place: NodeId,
     ) -> Result<(), AllocError>
-        ensures { OnOk result (Adds program.now self.old self.new (standing_in (number_in class) (tree_at program.now.nodes.items place ∷ []))) }
+        requires { IsNamedBy program.now named.old }
+        ensures named { IsNamedBy program.now named.new }
+        ensures adds { OnOk result (Adds program.now self.old self.new (standing_in (number_in class) (tree_at program.now.nodes.items place ∷ []))) }
     {
         let node = part_place(program, place);
-        let callers = program.callers_of(program.node(node));
+        let callers = callers_of(alloc, program, named, program.node(node))?;
         let entry = Entry { class, node };
         put_named(alloc, &mut self.plain, callers.name, entry)?;
         put_named(alloc, &mut self.setters, callers.attribute, entry)

@@ -10,17 +10,17 @@ use Rattle.rr_tree.specs.Methods.{calls, is_called_by, number_in, Adds}
 use Rattle.rr_tree.proofs.Defined.{both_add}
 use Rattle.rr_tree.proofs.method_table.MethodTable.put.Goals as goal
 
-pub returns : goal.returns
-returns c =
+pub returns-clause-adds : goal.returns-clause-adds
+returns-clause-adds c =
     let p = c.args.program.now in
     let ns = p.nodes.items in
     let old = c.args.self.now in
     let new : MethodTable = record { plain = c.put_named.new.lists; setters = c.put_named-2.new.lists } in
     let e : Entry = record { class = c.args.class; node = c.part_place-node.result } in
-    let plain = number_in c.callers_of-callers.result.name in
-    let attribute = number_in c.callers_of-callers.result.attribute in
+    let plain = number_in c.in_ok-callers.callers.name in
+    let attribute = number_in c.in_ok-callers.callers.attribute in
     let part : IsNoItem c.node.result = subst IsNoItem (sym c.node.ensures.node) c.part_place-node.ensures.part in
-    let is : (x : MethodName) → calls p x (tree_at ns e.node) ≡ is_called_by plain attribute x = λ x. ap (calls p x) c.node.ensures.tree ∙ c.callers_of-callers.ensures part ns x in
+    let is : (x : MethodName) → calls p x (tree_at ns e.node) ≡ is_called_by plain attribute x = λ x. ap (calls p x) c.node.ensures.tree ∙ c.in_ok-callers.ensures.calls part ns x in
     on_ok_weaker c.put_named-2.result
     (λ k. subst (λ (t : Tree). Adds p old new (record { class = number_in c.args.class; tree = t } ∷ [])) c.part_place-node.ensures.tree (both_add p old new e plain attribute c.in_ok-put_named.ensures k is))
     c.put_named-2.ensures
