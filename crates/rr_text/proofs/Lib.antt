@@ -5,6 +5,7 @@ pub mod Loads
 mod Spelling
 pub mod Looking
 mod Leaves
+mod Alone
 pub mod Turning
 pub mod Rows
 pub mod Same

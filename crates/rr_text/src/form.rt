@@ -20,3 +20,12 @@ pub enum Text {
     /// The value leads to an object that was moved away.
     Shell,
 }
+
+/// Why a value has no text.
+#[derive(Clone, Copy, Drop)]
+pub enum Lack {
+    /// More containers stand inside one another than may be entered.
+    Deep,
+    /// The value leads to an object that was moved away.
+    Shell,
+}

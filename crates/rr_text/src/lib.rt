@@ -1,6 +1,7 @@
 //! The printed text of values.
 #![tactic(auto)]
 
+mod behind;
 mod beside;
 mod comparing;
 mod form;
@@ -20,8 +21,9 @@ mod sight;
 mod walk;
 mod writing;
 
+pub use behind::write_text;
 pub use comparing::{compare, compare_within};
-pub use form::{Form, Text};
+pub use form::{Form, Lack, Text};
 pub use joining::{Joined, join, join_within};
 pub use laws::shown_by_rows;
 pub use names::{class_name, symbol_name};
