@@ -20,7 +20,14 @@ a variable of an exception|class E < StandardError; def initialize(x); super(\"m
 an exception of a class above|class E < StandardError; end; class F < E; end; begin; raise F, \"a\"; rescue E => e; puts e.message, e.class; end^n|a^nF^n|
 super with ensure|class A; def f; 1; end; end; class B < A; def f; super; ensure; puts 2; end; end; p B.new.f^n|2^n1^n|
 super of an exception's initialize|class E < StandardError; def initialize(n); super(\"n is #{n}\"); @n = n; end; def n; @n; end; end; begin; raise E.new(5); rescue E => e; puts e.message, e.n; end^n|n is 5^n5^n|
-super of an exception's initialize without a message|class E < StandardError; def initialize; super(); end; end; puts E.new.message^n|E^n|";
+super of an exception's initialize without a message|class E < StandardError; def initialize; super(); end; end; puts E.new.message^n|E^n|
+super to an attr_accessor|class A; attr_accessor :x; end; class B < A; def x=(v); super(v * 2); end; end; b = B.new; b.x = 4; p b.x; p(b.x = 5)^n|8^n5^n|
+super alone to an attr_writer|class A; attr_reader :y; attr_writer :y; end; class B < A; def y=(v); super; end; end; b = B.new; b.y = 7; p b.y^n|7^n|
+super to the last writer of a class|class A; attr_writer :x; def x=(v); @x = v + 1; end; def x; @x; end; end; class B < A; def x=(v); super; end; end; b = B.new; b.x = 7; p b.x^n|8^n|
+super to an attr_writer behind a def|class A; def x=(v); @x = v + 1; end; attr_accessor :x; end; class B < A; def x=(v); super; end; end; b = B.new; b.x = 7; p b.x^n|7^n|
+super of a writer that no class above has|class A; attr_reader :x; end; class B < A; def x=(v); super; end; end; begin; B.new.x = 1; rescue NoMethodError; p 1; end^n|1^n|
+super to an attr_writer with two values|class A; attr_writer :x; end; class B < A; def x=(v); super(v, v); end; end; begin; B.new.x = 1; rescue ArgumentError => e; puts e.message; end^n|wrong number of arguments (given 2, expected 1)^n|
+super to an attr_writer on a frozen object|class A; attr_writer :x; end; class B < A; def x=(v); super; end; end; begin; B.new.freeze.x = 1; rescue FrozenError; p 2; end^n|2^n|";
 
 #[test]
 fn super_and_exceptions_print_what_is_wanted(rt: HostRuntime) -> Result<(), Fail> {
