@@ -96,6 +96,8 @@ mod usual_requests;
 #[cfg(test)]
 mod usual_tasks;
 #[cfg(test)]
+mod usual_texts;
+#[cfg(test)]
 mod usual_updates;
 #[cfg(test)]
 mod writers;

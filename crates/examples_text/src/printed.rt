@@ -2,7 +2,7 @@
 
 use rr_base::{ClassId, Fault, RactorNo, Sym};
 use rr_space::{Entries, Items, Key, Kind, Node, Raised, Ref, Space};
-use rr_text::{Form, Text, text, text_within};
+use rr_text::{Form, Text, text, text_within, write_text};
 use rr_tree::Program;
 use std::alloc::{AllocError, Global};
 use std::process::Abort;
@@ -41,7 +41,24 @@ fn writes(
 ) -> Result<bool, Fault> {
     let program = program(alloc)?;
     let found = text(alloc, space, &program, value, form)?;
-    Ok(is(&found, wanted))
+    Ok(is(&found, wanted) && is_behind(alloc, space, &program, value, form, wanted)?)
+}
+
+/// Whether the same is written behind other bytes.
+fn is_behind(
+    alloc: Global,
+    space: &Space,
+    program: &Program,
+    value: Ref,
+    form: Form,
+    wanted: &str,
+) -> Result<bool, Fault> {
+    let mut out = b"before ".to_vec(alloc)?;
+    let lack = write_text(alloc, space, program, value, form, &mut out)?;
+    match out.as_slice().strip_prefix(b"before ".as_slice()) {
+        Some(written) => Ok(lack.is_none() && written == wanted.as_bytes()),
+        None => Ok(false),
+    }
 }
 
 /// A value is written so. Nothing is answered, since each way out of a test is proved with all that was made before it.
