@@ -18,6 +18,7 @@ pub mod QuickAttributes
 pub mod QuickCalls
 pub mod QuickSends
 pub mod QuickTasks
+pub mod MadeTexts
 pub mod QuickRequests
 pub mod Finishing
 pub mod Bytes

@@ -47,7 +47,20 @@ abbrev pub TakeFirst : Program → View → Table → List Tree → ℕ → List
 TakeFirst p m t trees steps vs others =
     (stand : List Ref) (next : List Ref → Script) → ComesTo p m t (arguments (context_of p) trees stand next) steps (arguments (context_of p) others (stand ++ vs) next)
 
--- the same of parts none of which is spread
+-- a tree takes so many steps, changes the objects to these and nothing else, and has this value, whatever was asked before
+abbrev pub MakesNow : Program → View → Table → Tree → ℕ → Ref → Table → Type 0
+MakesNow p m t tree steps v u = (h : Course) (n : ℕ) → means (code_of p h.world) tree (state_of p m t h) (steps + n) ≡ Ended (Gave v) (state_of p m u h) n
+
+-- a script takes so many steps, changes the objects to these and nothing else, and goes on as another
+abbrev pub MakesThen : Program → View → Table → Script → ℕ → Table → Script → Type 0
+MakesThen p m t script steps u next = (h : Course) (n : ℕ) → runs_in (code_of p h.world) script (state_of p m t h) (steps + n) ≡ runs_in (code_of p h.world) next (state_of p m u h) n
+
+-- The first of the parts of a list, all but these, do so and stand for these values, whatever stands before, and whatever follows.
+abbrev pub MakeFirst : Program → View → Table → List Tree → ℕ → List Ref → Table → List Tree → Type 0
+MakeFirst p m t trees steps vs u others =
+    (stand : List Ref) (next : List Ref → Script) → MakesThen p m t (arguments (context_of p) trees stand next) steps u (arguments (context_of p) others (stand ++ vs) next)
+
+-- the same as of `TakeFirst` of parts none of which is spread
 abbrev pub ValuesFirst : Program → View → Table → List Tree → ℕ → List Ref → List Tree → Type 0
 ValuesFirst p m t trees steps vs others =
     (stand : List Ref) (next : List Ref → Script) → ComesTo p m t (values trees stand next) steps (values others (stand ++ vs) next)

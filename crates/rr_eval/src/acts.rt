@@ -211,7 +211,7 @@ impl Engine {
 
     /// One act: what stops the turn then, where something does. A refused growth leaves what is still to be done as it is.
     #[inline(always)]
-    pub fn act(
+    fn act(
         &mut self,
         prepared: &Prepared,
         space: &mut Space,
@@ -262,6 +262,38 @@ impl Engine {
                 self.make_pair(prepared, space, first, last)?;
                 Ok(None)
             }
+        }
+    }
+
+    /// One act of any kind: text literals are made in a way of their own, with what is then asked for.
+    #[inline(always)]
+    pub fn act_any(
+        &mut self,
+        prepared: &Prepared,
+        space: &mut Space,
+        stop: u64,
+    ) -> Result<Option<Turn>, Fault>
+        requires nested { IsNested (view_of self.old) }
+        requires within { AreWithin (length space.old.slots) (view_of self.old) }
+        requires stop { stop ≤ self.old.left }
+        ensures nested { IsNested (view_of self.new) }
+        ensures within { KeepsReach (view_of self.old) space.old (view_of self.new) space.new }
+        ensures read { KeepsRead (view_of self.old) space.old space.new }
+        ensures ends_within { (clusters : Option Below) → AreReached (reach (length space.old.slots) clusters) (view_of self.old) → IfOk result (λ stops. IfSome stops (IsTurnReached (reach (length space.new.slots) clusters))) }
+        ensures acted { Acted prepared.now.program (view_of self.old) space.old stop result (view_of self.new) space.new }
+        ensures left { stop ≤ self.new.left }
+        ensures kept { IfOk result (λ stops. stops ≡ Option.None → self.new.left ≤ self.old.left) }
+        ensures falls { IfOk result (λ stops. Descends (view_of self.old) stops (view_of self.new)) }
+        ensures limit { space.new.limit ≡ space.old.limit }
+        ensures changed { Changes space.old space.new }
+        ensures full { IfErr result (λ f. (h : Course) → Adds h.world → Passes f space.old.limit (objects_of (remaining prepared.now.program (view_of self.old) space.old h))) }
+    {
+        if !self.visit_text(prepared, space, stop) {
+            return self.act(prepared, space, stop);
+        }
+        match self.ask_rarely(prepared, space, stop) {
+            Some(request) => Ok(Some(Turn::Ask(request))),
+            None => Ok(None),
         }
     }
 }

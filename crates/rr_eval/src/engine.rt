@@ -333,7 +333,7 @@ impl Engine {
             {
                 return Ok(Turn::Ask(request));
             }
-            if let Some(turn) = self.act(prepared, space, stop)? {
+            if let Some(turn) = self.act_any(prepared, space, stop)? {
                 return Ok(turn);
             }
         }

@@ -37,7 +37,7 @@ use rr_tree::{Node, NodeId, Program};
 use std::alloc::{AllocError, Global};
 
 /// A copy of a text literal; empty past the table.
-fn literal(alloc: Global, program: &Program, i: u32) -> Result<Vec<u8>, AllocError>
+pub fn literal(alloc: Global, program: &Program, i: u32) -> Result<Vec<u8>, AllocError>
     ensures { IfOk result (λ text. text.items ≡ slice_index_or (context_of program.now).texts i []) }
 {
     match program.texts.get(i as usize) {

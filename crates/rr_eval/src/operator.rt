@@ -128,7 +128,7 @@ fn make_frozen(space: &mut Space, bytes: Vec<u8>) -> Result<Ref, Fault>
 }
 
 /// Makes the text of a literal. A refused growth leaves the objects as they were.
-fn make_literal(space: &mut Space, frozen: bool, bytes: Vec<u8>) -> Result<Ref, Fault>
+pub fn make_literal(space: &mut Space, frozen: bool, bytes: Vec<u8>) -> Result<Ref, Fault>
     ensures name { IfOk result (λ text. text ≡ Ref.Local (length space.old.slots)) }
     ensures made { IfOk result (λ _. space.new ≡ with_literal frozen bytes.items space.old) }
     ensures read { (below : Below) → IsReadWith space.old below → IsReadWith space.new below }

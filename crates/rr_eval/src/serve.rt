@@ -21,6 +21,7 @@ ghost use Rattle.rr_eval.specs.Script.{Calls};
 ghost use Rattle.rr_eval.specs.Serves.{IsLeft, IsReplied, IsRefused, IsTaskReplied, IsTaskRefused, IsRequestReplied, IsRequestRefused};
 ghost use Rattle.rr_eval.specs.Sharing.{called_reply, ractor_method};
 ghost use Rattle.rr_eval.specs.Tasks.{piece_of};
+ghost use Rattle.rr_text.specs.Forms.{Names};
 ghost use Rattle.rr_text.specs.Names.{names_of};
 ghost use Rattle.rr_eval.specs.Responses.{receiver_of, response_from};
 ghost use Rattle.rr_eval.specs.Turns.{context_of};
@@ -28,7 +29,7 @@ ghost use Rattle.rr_eval.specs.Within.{reach, IsReached, IsCallReached, IsReques
 
 use crate::call::{Arguments, Call, Callee, Task};
 use crate::fields::write_field;
-use crate::print::{Served, serve_task};
+use crate::print::{Served, new_array_of, serve_task};
 use crate::problem::{Problem, Response};
 use crate::ractor_method::ractor_method;
 use crate::request::Request;
@@ -272,6 +273,27 @@ pub fn serve_field(
     })
 }
 
+/// Makes an array of many values, which are moved into it.
+fn serve_array(
+    alloc: Global,
+    space: &mut Space,
+    store: &StoreState,
+    items: Vec<Ref>,
+) -> Result<Served, Fault>
+    requires read { IsReadWith space.old (published store.now) }
+    requires reached { All (IsReached (reach (length space.old.slots) (Some (published store.now)))) items.items }
+    ensures piece { (names : Names) → IfOk result (λ served. served.piece.items ≡ piece_of Tasks.MakeArray names space.old items.items) }
+    ensures replied { (c : Context) → IfOk result (λ served. IsTaskReplied c (published store.now) Tasks.MakeArray items.items space.old served.response space.new) }
+    ensures left { IfOk result (λ served. IsLeft (published store.now) space.old served.response space.new) }
+    ensures refused { (c : Context) → IfErr result (IsTaskRefused c (published store.now) Tasks.MakeArray items.items space.old) }
+{
+    let response = new_array_of(space, store, items)?;
+    Ok(Served {
+        piece: Vec::new(alloc),
+        response,
+    })
+}
+
 /// Does a task with these values.
 fn serve_values(
     alloc: Global,
@@ -279,29 +301,25 @@ fn serve_values(
     store: &StoreState,
     program: &Program,
     task: Task,
-    values: &Arguments,
+    values: Arguments,
 ) -> Result<Served, Fault>
     requires read { IsReadWith space.old (published store.now) }
-    requires reached { All (IsReached (reach (length space.old.slots) (Some (published store.now)))) (arguments_of values.now) }
-    ensures piece { IfOk result (λ served. served.piece.items ≡ piece_of task (names_of program.now) space.old (arguments_of values.now)) }
-    ensures replied { IfOk result (λ served. IsTaskReplied (context_of program.now) (published store.now) task (arguments_of values.now) space.old served.response space.new) }
+    requires reached { All (IsReached (reach (length space.old.slots) (Some (published store.now)))) (arguments_of values) }
+    ensures piece { IfOk result (λ served. served.piece.items ≡ piece_of task (names_of program.now) space.old (arguments_of values)) }
+    ensures replied { IfOk result (λ served. IsTaskReplied (context_of program.now) (published store.now) task (arguments_of values) space.old served.response space.new) }
     ensures left { IfOk result (λ served. IsLeft (published store.now) space.old served.response space.new) }
-    ensures refused { IfErr result (IsTaskRefused (context_of program.now) (published store.now) task (arguments_of values.now) space.old) }
+    ensures refused { IfErr result (IsTaskRefused (context_of program.now) (published store.now) task (arguments_of values) space.old) }
 {
     match values {
         Arguments::Without => serve_task(alloc, space, store, program, task, &[]),
-        Arguments::One(first) => serve_task(alloc, space, store, program, task, &[*first]),
+        Arguments::One(first) => serve_task(alloc, space, store, program, task, &[first]),
         Arguments::Two(first, second) => {
-            serve_task(alloc, space, store, program, task, &[*first, *second])
+            serve_task(alloc, space, store, program, task, &[first, second])
         }
-        Arguments::Many(values) => serve_task(
-            alloc,
-            space,
-            store,
-            program,
-            task,
-            values.as_slice(),
-        ),
+        Arguments::Many(values) => match task {
+            Task::MakeArray => serve_array(alloc, space, store, values),
+            _ => serve_task(alloc, space, store, program, task, values.as_slice()),
+        },
     }
 }
 
@@ -324,7 +342,7 @@ pub fn serve(
     ensures refused { IfErr result (IsRequestRefused (context_of program.now) (published store.now) (asked_of space.old request) space.old) }
 {
     match request {
-        Request::Do(task, values) => serve_values(alloc, space, store, program, task, &values),
+        Request::Do(task, values) => serve_values(alloc, space, store, program, task, values),
         Request::Call(call) => {
             let response = serve_called(alloc, space, store, program, methods, &call)?;
             Ok(Served {

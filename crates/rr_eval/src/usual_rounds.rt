@@ -16,7 +16,7 @@ ghost use Rattle.rr_frames.specs.declared.activation.Shape.{Shape};
 ghost use Rattle.rr_eval.specs.declared.problem.Answer.{Answer};
 ghost use Rattle.rr_eval.specs.Blocks.{shape_in, opened};
 ghost use Rattle.rr_eval.specs.Frames.{iterated, Nested};
-ghost use Rattle.rr_eval.specs.Iterating.{ahead, kept, takes_array, turn_of, continued_with};
+ghost use Rattle.rr_eval.specs.Iterating.{ahead, kept, takes_array, turn_of, continued, continued_with};
 ghost use Rattle.rr_eval.specs.Requests.{Course};
 ghost use Rattle.rr_eval.specs.Script.{Ret, Evaluate, TurnPart};
 ghost use Rattle.rr_eval.specs.Turns.{context_of, code_of, state_of, remaining, remaining_with, IsNested, after_values, size};
@@ -29,7 +29,7 @@ use crate::blocks::shape_at;
 use crate::call_stack::Entry;
 use crate::engine::{Engine, push_within};
 use crate::frame::{Control, Frame, standing};
-use crate::iterating::{Ahead, Iterating, Visits, below, element_ahead, up_to, value_at};
+use crate::iterating::{Ahead, Iterating, Visits, below, element_ahead, kept, up_to, value_at};
 use crate::iterations::spreads_few;
 use crate::problem::Answer;
 use rr_builtin::Iteration;
@@ -70,6 +70,22 @@ fn ahead_often(space: &Space, visits: Visits, stand: &[Ref]) -> Option<Ahead>
             Some(element_ahead(space, iteration, array, place))
         }
         Visits::Forever => Some(Ahead::Another(None, None, Visits::Forever)),
+        _ => None,
+    }
+}
+
+/// What is ahead of an iteration over an array.
+#[inline(always)]
+fn elements_ahead(space: &Space, visits: Visits, stand: &[Ref]) -> Option<Ahead>
+    ensures is { IfSome result (λ a. a ≡ ahead visits stand.now space.now) }
+    ensures apart { IfSome result (λ a. (first last : Option Ref) (more : Visits) (shape : Option Shape) → a ≡ Ahead.Another first last more → takes_array more shape ≡ Bool.false) }
+    ensures within { (clusters : Option Below) → IfSome result (IsAheadReached (reach (length space.now.slots) clusters)) }
+{
+    match visits {
+        Visits::Elements(iteration, place) => {
+            let array = value_at(stand, 0);
+            Some(element_ahead(space, iteration, array, place))
+        }
         _ => None,
     }
 }
@@ -197,6 +213,96 @@ impl Engine {
         }
     }
 
+    /// Goes on with what is ahead of an iteration over an array, where that is another turn that takes no memory.
+    #[tactic(auto, unfolding(crate::specs::Within::AreReached))]
+    #[inline(always)]
+    fn begin_element(&mut self, program: &Program, space: &Space, iteration: Iterating) -> bool
+        requires room { length self.old.frames.items < vec_capacity self.old.frames }
+        requires base { iteration.base ≤ length self.old.held.items }
+        requires nested { Nested (reverse self.old.frames.items) (take iteration.base self.old.held.items) }
+        ensures goes { IsTrue result → (h : Course) (n : ℕ) → after_values program.now (view_of self.old) space.now (Frame.Turned iteration) (continued (context_of program.now) (iterated (code_of program.now h.world) iteration (drop iteration.base self.old.held.items))) h n ≡ remaining_with program.now (view_of self.new) space.now h n }
+        ensures nested { IsTrue result → IsNested (view_of self.new) }
+        ensures within { (clusters : Option Below) → AreReached (reach (length space.now.slots) clusters) (view_of self.old) → AreReached (reach (length space.now.slots) clusters) (view_of self.new) }
+        ensures left { self.new.left ≡ self.old.left }
+        ensures size { IsTrue result → size (view_of self.new) ≤ 3 * length self.old.frames.items + 4 }
+        ensures same { IsFalse result → self.new ≡ self.old }
+    {
+        let stand = standing(&self.held, Frame::Turned(iteration));
+        match elements_ahead(space, iteration.visits, stand) {
+            Some(Ahead::Another(first, last, visits)) => {
+                let next = Iterating {
+                    visits,
+                    ..iteration
+                };
+                self.begin_round(program, space, next, first, last)
+            }
+            _ => false,
+        }
+    }
+
+    /// The same, where a value is kept before, if there is one and there is room for it.
+    #[tactic(auto, unfolding(crate::specs::Within::AreReached))]
+    fn begin_element_with(
+        &mut self,
+        program: &Program,
+        space: &Space,
+        iteration: Iterating,
+        found: Option<Ref>,
+    ) -> bool
+        requires room { length self.old.frames.items < vec_capacity self.old.frames }
+        requires base { iteration.base ≤ length self.old.held.items }
+        requires nested { Nested (reverse self.old.frames.items) (take iteration.base self.old.held.items) }
+        ensures goes { IsTrue result → (h : Course) (n : ℕ) → after_values program.now (view_of self.old) space.now (Frame.Turned iteration) (continued (context_of program.now) (iterated (code_of program.now h.world) iteration (drop iteration.base self.old.held.items ++ list_of found))) h n ≡ remaining_with program.now (view_of self.new) space.now h n }
+        ensures nested { IsTrue result → IsNested (view_of self.new) }
+        ensures within { (clusters : Option Below) → AreReached (reach (length space.now.slots) clusters) (view_of self.old) → All (IsReached (reach (length space.now.slots) clusters)) (list_of found) → AreReached (reach (length space.now.slots) clusters) (view_of self.new) }
+        ensures left { self.new.left ≡ self.old.left }
+        ensures size { IsTrue result → size (view_of self.new) ≤ 3 * length self.old.frames.items + 4 }
+        ensures same { IsFalse result → view_of self.new ≡ view_of self.old }
+        ensures still { IsFalse result → length self.new.frames.items < vec_capacity self.new.frames }
+    {
+        let Some(value) = found else {
+            return self.begin_element(program, space, iteration);
+        };
+        if self.held.len() >= self.held.capacity() {
+            return false;
+        }
+        let count = self.held.len();
+        self.held.push_reserved(value);
+        if self.begin_element(program, space, iteration) {
+            return true;
+        }
+        self.held.truncate(count);
+        false
+    }
+
+    /// Goes on behind a turn of an iteration over an array that had a value, and whose frame is gone, where the iteration may keep a value
+    /// of it and another turn is ahead that takes no memory.
+    #[tactic(auto, unfolding(crate::specs::Within::AreReached))]
+    fn begin_kept(
+        &mut self,
+        program: &Program,
+        space: &Space,
+        iteration: Iterating,
+        value: Ref,
+    ) -> bool
+        requires room { length self.old.frames.items < vec_capacity self.old.frames }
+        requires base { iteration.base ≤ length self.old.held.items }
+        requires nested { Nested (reverse self.old.frames.items) (take iteration.base self.old.held.items) }
+        ensures goes { IsTrue result → (h : Course) (n : ℕ) → after_values program.now (view_of self.old) space.now (Frame.Turned iteration) (continued_with (context_of program.now) (iterated (code_of program.now h.world) iteration (drop iteration.base self.old.held.items)) value) h n ≡ remaining_with program.now (view_of self.new) space.now h n }
+        ensures nested { IsTrue result → IsNested (view_of self.new) }
+        ensures within { (clusters : Option Below) → AreReached (reach (length space.now.slots) clusters) (view_of self.old) → IsReached (reach (length space.now.slots) clusters) value → AreReached (reach (length space.now.slots) clusters) (view_of self.new) }
+        ensures left { self.new.left ≡ self.old.left }
+        ensures size { IsTrue result → size (view_of self.new) ≤ 3 * length self.old.frames.items + 4 }
+        ensures same { IsFalse result → view_of self.new ≡ view_of self.old }
+        ensures still { IsFalse result → length self.new.frames.items < vec_capacity self.new.frames }
+    {
+        let stand = standing(&self.held, Frame::Turned(iteration));
+        match kept(space, iteration.visits, value, stand) {
+            Ok(found) => self.begin_element_with(program, space, iteration, found),
+            Err(_) => false,
+        }
+    }
+
     /// Goes on behind a turn of an iteration, whose frame goes: it answers whether another turn began. Where none did, the iteration
     /// waits behind its turn.
     #[tactic(auto, unfolding(crate::specs::Within::AreReached))]
@@ -224,6 +330,38 @@ impl Engine {
         self.take_top(Frame::Round(iteration), Answer::Gave(value));
         self.pop_call();
         if self.begin_next(program, space, iteration, value) {
+            self.enter_body(program, stop);
+            return true;
+        }
+        push_within(&mut self.frames, Frame::Turned(iteration));
+        false
+    }
+
+    /// The same of an iteration over an array that may keep a value of its turn.
+    #[tactic(auto, unfolding(crate::specs::Within::AreReached))]
+    pub fn resume_kept(
+        &mut self,
+        program: &Program,
+        space: &Space,
+        iteration: Iterating,
+        value: Ref,
+        stop: u64,
+    ) -> bool
+        requires control { self.old.control ≡ Control.Give (Answer.Gave value) }
+        requires top { IsTop self.old.frames.items (Frame.Round iteration) }
+        requires nested { IsNested (view_of self.old) }
+        requires within { stop ≤ self.old.left }
+        ensures goes { (h : Course) → remaining program.now (view_of self.old) space.now h ≡ remaining program.now (view_of self.new) space.now h }
+        ensures nested { IsNested (view_of self.new) }
+        ensures within { (clusters : Option Below) → AreReached (reach (length space.now.slots) clusters) (view_of self.old) → AreReached (reach (length space.now.slots) clusters) (view_of self.new) }
+        ensures left { stop ≤ self.new.left }
+        ensures spends { self.new.left ≤ self.old.left }
+        ensures kept { size (view_of self.new) ≤ size (view_of self.old) }
+        ensures falls { IsTrue result → size (view_of self.new) < size (view_of self.old) }
+    {
+        self.take_top(Frame::Round(iteration), Answer::Gave(value));
+        self.pop_call();
+        if self.begin_kept(program, space, iteration, value) {
             self.enter_body(program, stop);
             return true;
         }

@@ -443,6 +443,9 @@ impl Engine {
             | Node::Append(_, _)
             | Node::SetAttribute { .. }
             | Node::SetIndex { .. } => self.visit_send(prepared, space, here, node, stop),
+            Node::WithBlock(call, block) => {
+                self.visit_block(prepared, space, here, node, call, block, stop)
+            }
             _ => self.visit_rare(prepared, space, here, node),
         }
     }

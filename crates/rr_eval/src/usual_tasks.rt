@@ -218,7 +218,7 @@ impl Engine {
         Some(Request::Do(Task::MakeHash, values))
     }
 
-    /// Asks for an array, a text or a hash that is made of parts, or for an assignment to an attribute, where no part needs a frame.
+    /// Asks for an array or a hash that is made of parts, or for an assignment to an attribute, where no part needs a frame.
     #[inline(always)]
     fn ask_made(
         &mut self,
@@ -244,9 +244,6 @@ impl Engine {
         match prepared.node(here) {
             Some(&Node::Array { first, count }) => {
                 self.ask_listed(prepared, space, here, Task::MakeArray, first, count, stop)
-            }
-            Some(&Node::Interpolation { first, count }) => {
-                self.ask_listed(prepared, space, here, Task::MakeText, first, count, stop)
             }
             Some(&Node::Hash { first, count }) => {
                 self.ask_pairs(prepared, space, here, first, count, stop)
@@ -318,6 +315,10 @@ impl Engine {
                 let frame = Frame::Item(Target::Do(task), end, 0, base);
                 self.ask_done(prepared, space, task, base, frame, value)
             }
+            Some(&Frame::Argument(Target::Do(task), end, 0, base)) => {
+                let frame = Frame::Argument(Target::Do(task), end, 0, base);
+                self.ask_done(prepared, space, task, base, frame, value)
+            }
             Some(&Frame::Value(end, 0, base)) => {
                 let frame = Frame::Value(end, 0, base);
                 self.ask_done(prepared, space, Task::MakeHash, base, frame, value)
@@ -335,7 +336,6 @@ impl Engine {
         match self.control {
             Control::Enter(here) => match prepared.node(here) {
                 Some(&Node::Array { .. })
-                | Some(&Node::Interpolation { .. })
                 | Some(&Node::Hash { .. })
                 | Some(&Node::SetAttribute { .. }) => true,
                 _ => false,

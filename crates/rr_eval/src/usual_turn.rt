@@ -16,8 +16,10 @@ ghost use Rattle.rr_eval.specs.Within.{Reach, reach, IsFrameReached, IsAnswerRea
 use crate::call_stack::{CallValue, Variable};
 use crate::engine::Engine;
 use crate::frame::{Control, Frame};
+use crate::iterating::Visits;
 use crate::prepared::Prepared;
 use crate::problem::Answer;
+use rr_builtin::Iteration;
 use rr_space::{Ref, Space};
 use rr_tree::{BinaryOperator, NodeId, Program};
 
@@ -338,6 +340,9 @@ impl Engine {
                 let program = &prepared.program;
                 return self.resume_variables(program, space, end, count, base, value);
             }
+            Frame::Round(iteration) => {
+                return self.resume_kept(&prepared.program, space, iteration, value, stop);
+            }
             _ => return false,
         }
         true
@@ -374,9 +379,12 @@ impl Engine {
             Some(&Frame::Rescue(end, count, otherwise)) => {
                 self.resume_rescue(program, end, count, otherwise, value);
             }
-            Some(&Frame::Round(iteration)) => {
-                return self.resume_turn(program, space, iteration, value, stop);
-            }
+            Some(&Frame::Round(iteration)) => match iteration.visits {
+                Visits::Elements(Iteration::Map, _) | Visits::Elements(Iteration::Select, _) => {
+                    return self.resume_apart(prepared, space, stop);
+                }
+                _ => return self.resume_turn(program, space, iteration, value, stop),
+            },
             Some(&Frame::SetField(_)) => return false,
             Some(&Frame::Argument(_, _, _, _))
             | Some(&Frame::Receiver(_, _, _, _))

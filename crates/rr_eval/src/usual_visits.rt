@@ -436,6 +436,11 @@ impl Engine {
             &Node::OperatorAssign(op, target, value) => {
                 self.update_usual(prepared, space, here, op, target, value, stop);
             }
+            &Node::Text(_)
+            | &Node::Interpolation { .. }
+            | &Node::Array { .. }
+            | &Node::Hash { .. }
+            | &Node::WithBlock(_, _) => return false,
             _ => return self.visit_waiting(prepared, space, here, node, stop),
         }
         true

@@ -1,17 +1,22 @@
--- A new array is the reply.
-use Rattle.std.proofs.Common.{Ok, Err}
+-- The values are those of the array.
+use Rattle.std.proofs.Common.{IfOk, IfErr, Some, length, sym, subst}
+use Rattle.std.specs.List.{All}
 use Rattle.rr_eval.specs.Published.{published}
-use Rattle.rr_eval.proofs.Replying.{array_acts, array_replied, array_refused}
+use Rattle.rr_eval.specs.Serves.{IsReplied, IsRefused}
+use Rattle.rr_eval.specs.Tasks.{array_reply}
+use Rattle.rr_eval.specs.Within.{reach, IsReached}
 use Rattle.rr_eval.proofs.print.new_array.Goals as goal
 
-pub returns-in-Ok-clause-replied : goal.returns-in-Ok-clause-replied
-returns-in-Ok-clause-replied c =
-    let below = published c.args.store.now in
-    let is = array_acts below c.in_ok-items.items.items c.args.values.now c.args.space.now c.make_array.new.space (Ok c.in-Ok.built) c.in_ok-items.ensures.items c.in-Ok.ensures.act c.requires.read c.requires.reached in
-    array_replied below c.args.values.now c.args.space.now c.make_array.new.space c.in-Ok.built c.response_from.result is c.response_from.ensures.is
+pub new_array_of-requires-clause-reached : goal.new_array_of-requires-clause-reached
+new_array_of-requires-clause-reached c =
+    subst (All (IsReached (reach (length c.args.space.now.slots) (Some (published c.args.store.now))))) (sym c.in_ok-items.ensures.items) c.requires.reached
 
-pub returns-in-Err-clause-refused : goal.returns-in-Err-clause-refused
-returns-in-Err-clause-refused c =
-    let below = published c.args.store.now in
-    let is = array_acts below c.in_ok-items.items.items c.args.values.now c.args.space.now c.make_array.new.space (Err c.in-Err.fault) c.in_ok-items.ensures.items c.in-Err.ensures.act c.requires.read c.requires.reached in
-    array_refused below c.args.values.now c.args.space.now c.make_array.new.space c.in-Err.fault is
+pub returns-clause-replied : goal.returns-clause-replied
+returns-clause-replied c =
+    let t = c.args.space.now in
+    subst (λ l. IfOk c.new_array_of.result (λ r. IsReplied (published c.args.store.now) (array_reply l t) t r c.new_array_of.new.space)) c.in_ok-items.ensures.items c.new_array_of.ensures.replied
+
+pub returns-clause-refused : goal.returns-clause-refused
+returns-clause-refused c =
+    let t = c.args.space.now in
+    subst (λ l. IfErr c.new_array_of.result (IsRefused (array_reply l t) t)) c.in_ok-items.ensures.items c.new_array_of.ensures.refused

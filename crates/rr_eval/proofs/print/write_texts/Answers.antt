@@ -4,5 +4,5 @@ use Rattle.std.proofs.Common.{sym, subst}
 use Rattle.rr_text.specs.Reads.{IsAmong}
 use Rattle.rr_eval.proofs.print.write_texts.Goals as goal
 
-pub written_text-requires-clause-among : goal.written_text-requires-clause-among
-written_text-requires-clause-among c = subst (IsAmong (published c.args.store.now)) (sym c.value-item.is) (c.requires.among c.loop-value.value-index c.value-item.result c.loop-value-test.true)
+pub write_value-requires-clause-among : goal.write_value-requires-clause-among
+write_value-requires-clause-among c = subst (IsAmong (published c.args.store.now)) (sym c.value-item.is) (c.requires.among c.loop-value.value-index c.value-item.result c.loop-value-test.true)

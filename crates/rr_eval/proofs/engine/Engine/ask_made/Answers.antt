@@ -2,7 +2,7 @@
 use Rattle.std.proofs.Common.{◌+◌, ◌∙◌, [], ap}
 use Rattle.rr_tree.specs.Nodes.{trees_before}
 use Rattle.rr_eval.specs.declared.call.Target.TheVariants.{Do}
-use Rattle.rr_eval.specs.declared.call.Task.TheVariants.{MakeArray, MakeHash, MakeText}
+use Rattle.rr_eval.specs.declared.call.Task.TheVariants.{MakeArray, MakeHash}
 use Rattle.rr_eval.specs.Nodes.{evaluated_tree}
 use Rattle.rr_eval.specs.Rules.{rule, arguments, values, finish, pair_parts}
 use Rattle.rr_eval.specs.Turns.{context_of}
@@ -16,14 +16,6 @@ ask_listed-requires-clause-script c =
     let list = c.in-Some-Array in
     ap (rule own) (list.ensures.tree ∙ ap (evaluated_tree ns) list.field-0-is)
     ∙ ap (λ ts. arguments own ts [] (finish own (Do MakeArray))) (items_listed (trees_before ns (list.first + list.count) list.count))
-
-pub ask_listed-requires-in-Some-Interpolation-clause-script : goal.ask_listed-requires-in-Some-Interpolation-clause-script
-ask_listed-requires-in-Some-Interpolation-clause-script c =
-    let ns = c.args.prepared.now.program.nodes.items in
-    let own = context_of c.args.prepared.now.program in
-    let list = c.in-Some-Interpolation in
-    ap (rule own) (list.ensures.tree ∙ ap (evaluated_tree ns) list.field-0-is)
-    ∙ ap (λ ts. arguments own ts [] (finish own (Do MakeText))) (items_listed (trees_before ns (list.first + list.count) list.count))
 
 pub ask_pairs-requires-clause-script : goal.ask_pairs-requires-clause-script
 ask_pairs-requires-clause-script c =
