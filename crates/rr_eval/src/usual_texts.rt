@@ -269,7 +269,7 @@ impl Engine {
     }
 
     /// Evaluates a text literal, or a list of parts with which an array or a text is made, where that comes next: it answers whether it was
-    /// done. Where there is no memory all is as it was.
+    /// done. Where there is no memory for a text, its part is still to be evaluated.
     #[inline(always)]
     pub fn visit_text(&mut self, prepared: &Prepared, space: &mut Space, stop: u64) -> bool
         requires stop { stop ≤ self.old.left }
