@@ -6,6 +6,7 @@ pub mod Pairing
 pub mod Pieces
 pub mod Plain
 pub mod Simply
+pub mod Linked
 pub mod Readings
 pub mod Showing
 pub mod Depth

@@ -11,8 +11,10 @@ use Rattle.rr_tree.specs.declared.node.BinaryOperator.{BinaryOperator}
 use Rattle.rr_tree.specs.declared.program.Program.{Program}
 use Rattle.rr_eval.specs.declared.call_stack.Variable.{Variable as Named}
 use Rattle.rr_eval.specs.declared.problem.Answer.TheVariants.{Gave}
+use Rattle.rr_eval.specs.declared.chains.Chain.{Chain}
+use Rattle.rr_eval.specs.declared.chains.Link.{Link}
 use Rattle.rr_eval.specs.declared.simple_parts.SimplePart.{SimplePart}
-use Rattle.rr_eval.specs.declared.simple_parts.SimplePart.TheVariants.{Variable, Int, WithInt, WithVariable, Value, Itself, Reading, Other}
+use Rattle.rr_eval.specs.declared.simple_parts.SimplePart.TheVariants.{Variable, Int, WithInt, WithVariable, Value, Itself, Apart, Other}
 use Rattle.rr_frames.specs.Frames.{Frame as Activated}
 use Rattle.rr_eval.specs.Context.{Context}
 use Rattle.rr_eval.specs.Frames.{means, runs_in}
@@ -35,8 +37,8 @@ use Rattle.rr_eval.proofs.Depth.{meaning_rule}
 use Rattle.rr_eval.proofs.Quickly.{answers, leaf_takes}
 
 -- one part more
-pub simple_more : (p : Program) (parts : List SimplePart) (s : SimplePart) (n : ℕ) → length parts ≡ n → AreSimple p parts → IsSimple p (tree_at p.nodes.items n) s → AreSimple p (parts ++ s ∷ [])
-simple_more p parts s n at are is = λ x f e.
+pub simple_more : (p : Program) (links : List Link) (parts : List SimplePart) (s : SimplePart) (n : ℕ) → length parts ≡ n → AreSimple p links parts → IsSimple p links (tree_at p.nodes.items n) s → AreSimple p links (parts ++ s ∷ [])
+simple_more p links parts s n at are is = λ x f e.
     elim (append_cases parts (s ∷ []) x f e) [
       | inl l ↦ are x f l
       | inr r ↦
@@ -45,7 +47,7 @@ simple_more p parts s n at are is = λ x f e.
           let first = subst (λ j. slice_get (s ∷ []) j ≡ Some f) none r.2 in
           let same : s ≡ f = cc first in
           let there : n ≡ x = omega (arith, at, r.1, none) in
-          subst (IsSimple p (tree_at p.nodes.items x)) same (subst (λ k. IsSimple p (tree_at p.nodes.items k) s) there is)
+          subst (IsSimple p links (tree_at p.nodes.items x)) same (subst (λ k. IsSimple p links (tree_at p.nodes.items k) s) there is)
     ]
 
 abbrev named : ℕ → ℕ → Named
@@ -152,6 +154,12 @@ operation_itself o (Variable w) (Variable y) e = cc e
 operation_itself o (Variable w) _ e = cc e
 operation_itself o _ _ e = cc e
 
+operation_apart : (o : BinaryOperator) (s t : SimplePart) (chain : Chain) → operation_of o s t ≡ Apart chain → ⊥
+operation_apart o (Variable w) (Int y) chain e = cc e
+operation_apart o (Variable w) (Variable y) chain e = cc e
+operation_apart o (Variable w) _ chain e = cc e
+operation_apart o _ _ chain e = cc e
+
 no_value : (tree : Tree) (v : Ref) → simple_of tree ≡ Value v → ⊥
 no_value (binary o a b) v e = operation_value o (operand_of a) (operand_of b) v e
 no_value (int z) v e = cc e
@@ -164,15 +172,21 @@ no_itself (int z) e = cc e
 no_itself (local depth slot x behind) e = cc e
 no_itself _ e = cc e
 
-pub simple_is : (p : Program) (tree : Tree) (s : SimplePart) → s ≡ simple_of tree → IsSimple p tree s
-simple_is p tree (Value v) e = absurd (no_value tree v (sym e))
-simple_is p tree Itself e = absurd (no_itself tree (sym e))
-simple_is p tree Reading e = tt
-simple_is p tree (Variable v) e = e
-simple_is p tree (Int z) e = e
-simple_is p tree (WithInt op v z) e = e
-simple_is p tree (WithVariable op v w) e = e
-simple_is p tree Other e = e
+no_apart : (tree : Tree) (chain : Chain) → simple_of tree ≡ Apart chain → ⊥
+no_apart (binary o a b) chain e = operation_apart o (operand_of a) (operand_of b) chain e
+no_apart (int z) chain e = cc e
+no_apart (local depth slot x behind) chain e = cc e
+no_apart _ chain e = cc e
+
+pub simple_is : (p : Program) (links : List Link) (tree : Tree) (s : SimplePart) → s ≡ simple_of tree → IsSimple p links tree s
+simple_is p links tree (Value v) e = absurd (no_value tree v (sym e))
+simple_is p links tree Itself e = absurd (no_itself tree (sym e))
+simple_is p links tree (Apart chain) e = absurd (no_apart tree chain (sym e))
+simple_is p links tree (Variable v) e = e
+simple_is p links tree (Int z) e = e
+simple_is p links tree (WithInt op v z) e = e
+simple_is p links tree (WithVariable op v w) e = e
+simple_is p links tree Other e = e
 
 -- a literal's rule is its value
 class_rule : (p : Program) (x : Sym) (o : Option ClassId) (v : Ref) → option_map Class o ≡ Some v → plain_constant (context_of p) o x ≡ Ret (Gave v)

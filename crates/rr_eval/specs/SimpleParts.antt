@@ -1,5 +1,5 @@
 -- Parts that are evaluated without a frame, by what stands in the program.
-use Rattle.std.specs.Prelude.{◌≡◌, ℕ, List, Option, None, Some, slice_get}
+use Rattle.std.specs.Prelude.{◌≡◌, ◌+◌, ◌<◌, ◌≤◌, ℕ, List, [], ◌∷◌, length, take, drop, Option, None, Some, slice_get}
 use Rattle.std.specs.Option.{option_map}
 use Rattle.std.proofs.Props.{props}
 use Rattle.rr_tree.specs.Tree.{Tree, nil, truth, int, symbol, itself, class_named, constant, local, binary, tree_at}
@@ -11,8 +11,10 @@ use Rattle.rr_space.specs.Parts.{truth_ref}
 use Rattle.rr_space.specs.declared.refer.Ref.{Ref}
 use Rattle.rr_space.specs.declared.refer.Ref.TheVariants.{Nil, Symbol, Class}
 use Rattle.rr_eval.specs.Constants.{own_class}
+use Rattle.rr_eval.specs.declared.chains.Chain.{Chain}
+use Rattle.rr_eval.specs.declared.chains.Link.{Link}
 use Rattle.rr_eval.specs.declared.simple_parts.SimplePart.{SimplePart}
-use Rattle.rr_eval.specs.declared.simple_parts.SimplePart.TheVariants.{Variable, Int, WithInt, WithVariable, Value, Itself, Reading, Other}
+use Rattle.rr_eval.specs.declared.simple_parts.SimplePart.TheVariants.{Variable, Int, WithInt, WithVariable, Value, Itself, Apart, Other}
 
 -- an operand that is an integer or a variable
 abbrev pub operand_of : Tree → SimplePart
@@ -42,26 +44,43 @@ literal_of p (class_named k) = Some (Class k)
 literal_of p (constant (Plain x)) = option_map Class (own_class p x.0)
 literal_of p _ = None
 
--- what a part is taken for is what it is; of a reading nothing is said
-abbrev pub IsSimple : Program → Tree → SimplePart → Type 0
-IsSimple p tree (Value v) = literal_of p tree ≡ Some v
-IsSimple p tree Itself = tree ≡ itself
-IsSimple p tree Reading = Unit {0}
-IsSimple p tree s = s ≡ simple_of tree
+-- operators one after the other, the first of them on this tree, each other one on what those before it give, and the trees at their places
+abbrev pub linked : Program → Tree → List Link → Tree
+linked p tree [] = tree
+linked p tree (l ∷ ls) = linked p (binary l.op tree (tree_at p.nodes.items l.right)) ls
 
-pub IsSimple-prop : (p : Program) (tree : Tree) (s : SimplePart) → IsProp (IsSimple p tree s)
-IsSimple-prop p tree Reading = Prim.hlevel props
-IsSimple-prop p tree (Value v) = Prim.hlevel props
-IsSimple-prop p tree Itself = Prim.hlevel (props, Tree-set)
-IsSimple-prop p tree (Variable v) = Prim.hlevel props
-IsSimple-prop p tree (Int z) = Prim.hlevel props
-IsSimple-prop p tree (WithInt op v z) = Prim.hlevel props
-IsSimple-prop p tree (WithVariable op v w) = Prim.hlevel props
-IsSimple-prop p tree Other = Prim.hlevel props
+-- the links of a chain, among those of all chains
+abbrev pub links_of : List Link → Chain → List Link
+links_of links chain = take chain.count (drop chain.from links)
+
+-- a chain lies among the links, and ends with this tree
+abbrev pub IsLinked : Program → List Link → Chain → Tree → Type 0
+IsLinked p links chain tree = (chain.from + chain.count ≤ length links) × (linked p (tree_at p.nodes.items chain.first) (links_of links chain) ≡ tree)
+
+-- a chain that has links does so; of one without nothing is said
+abbrev pub IsChain : Program → List Link → Chain → Tree → Type 0
+IsChain p links chain tree = 0 < chain.count → IsLinked p links chain tree
+
+-- what a part is taken for is what it is
+abbrev pub IsSimple : Program → List Link → Tree → SimplePart → Type 0
+IsSimple p links tree (Value v) = literal_of p tree ≡ Some v
+IsSimple p links tree Itself = tree ≡ itself
+IsSimple p links tree (Apart chain) = IsChain p links chain tree
+IsSimple p links tree s = s ≡ simple_of tree
+
+pub IsSimple-prop : (p : Program) (links : List Link) (tree : Tree) (s : SimplePart) → IsProp (IsSimple p links tree s)
+IsSimple-prop p links tree (Apart chain) = Prim.hlevel (props, Tree-set)
+IsSimple-prop p links tree (Value v) = Prim.hlevel props
+IsSimple-prop p links tree Itself = Prim.hlevel (props, Tree-set)
+IsSimple-prop p links tree (Variable v) = Prim.hlevel props
+IsSimple-prop p links tree (Int z) = Prim.hlevel props
+IsSimple-prop p links tree (WithInt op v z) = Prim.hlevel props
+IsSimple-prop p links tree (WithVariable op v w) = Prim.hlevel props
+IsSimple-prop p links tree Other = Prim.hlevel props
 
 -- parts by their places
-abbrev pub AreSimple : Program → List SimplePart → Type 0
-AreSimple p parts = (x : ℕ) (s : SimplePart) → slice_get parts x ≡ Some s → IsSimple p (tree_at p.nodes.items x) s
+abbrev pub AreSimple : Program → List Link → List SimplePart → Type 0
+AreSimple p links parts = (x : ℕ) (s : SimplePart) → slice_get parts x ≡ Some s → IsSimple p links (tree_at p.nodes.items x) s
 
-pub AreSimple-prop : (p : Program) (parts : List SimplePart) → IsProp (AreSimple p parts)
-AreSimple-prop p parts = Prim.hlevel (props, IsSimple-prop)
+pub AreSimple-prop : (p : Program) (links : List Link) (parts : List SimplePart) → IsProp (AreSimple p links parts)
+AreSimple-prop p links parts = Prim.hlevel (props, IsSimple-prop)

@@ -60,7 +60,7 @@ fn global_of(space: &Space, name: Sym) -> Option<Ref>
 
 /// What a call without arguments reads, where it finds a method that reads an instance variable.
 #[inline(always)]
-fn attribute_of(prepared: &Prepared, space: &Space, receiver: Ref, name: Sym) -> Option<Ref>
+pub fn attribute_of(prepared: &Prepared, space: &Space, receiver: Ref, name: Sym) -> Option<Ref>
     ensures reads { IfSome result (GivesAtOnce prepared.now.program space.now (finish (context_of prepared.now.program) (Target.Call (Callee.Name name)) (receiver ∷ []))) }
     ensures within { (clusters : Option Below) → IfSome result (IsReached (reach (length space.now.slots) clusters)) }
 {
@@ -98,9 +98,8 @@ impl Engine {
     }
 
     /// What a part reads, and how many steps that takes.
-    #[cold]
-    #[inline(never)]
-    fn reading(&self, prepared: &Prepared, space: &Space, place: NodeId) -> Option<Quick>
+    #[inline(always)]
+    pub fn read_part(&self, prepared: &Prepared, space: &Space, place: NodeId) -> Option<Quick>
         ensures takes { IfSome result (λ q. TakesNow prepared.now.program (view_of self.now) space.now (tree_at prepared.now.program.nodes.items place) q.steps q.value) }
         ensures plain { IfSome result (λ _. is_splat (tree_at prepared.now.program.nodes.items place) ≡ false) }
         ensures some { IfSome result (λ q. 0 < q.steps) }
@@ -134,24 +133,6 @@ impl Engine {
                 }
             }
             _ => None,
-        }
-    }
-
-    /// What a part reads. It is written into memory here, and so the value of no other part has to be.
-    #[inline(always)]
-    pub fn quick_reading(&self, prepared: &Prepared, space: &Space, place: NodeId) -> Option<Quick>
-        ensures takes { IfSome result (λ q. TakesNow prepared.now.program (view_of self.now) space.now (tree_at prepared.now.program.nodes.items place) q.steps q.value) }
-        ensures plain { IfSome result (λ _. is_splat (tree_at prepared.now.program.nodes.items place) ≡ false) }
-        ensures some { IfSome result (λ q. 0 < q.steps) }
-        ensures few { IfSome result (λ q. q.steps ≤ 2) }
-        ensures within { (clusters : Option Below) → AreReached (reach (length space.now.slots) clusters) (view_of self.now) → IfSome result (λ q. IsReached (reach (length space.now.slots) clusters) q.value) }
-    {
-        match self.reading(prepared, space, place) {
-            Some(found) => Some(Quick {
-                value: found.value,
-                steps: found.steps,
-            }),
-            None => None,
         }
     }
 }

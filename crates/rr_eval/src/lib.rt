@@ -15,6 +15,7 @@ mod call;
 mod call_part;
 mod call_stack;
 mod causing;
+mod chains;
 mod clauses;
 mod constant;
 mod copying;

@@ -19,12 +19,13 @@ ghost use Rattle.rr_base.specs.declared.name.TheConstants.ClassId.{OBJECT};
 ghost use Rattle.rr_space.specs.declared.kind.Kind.{Kind as Kinds};
 ghost use Rattle.rr_eval.specs.Prepared.{AreInitializers, AreInitializers-prop, AreSymbolsOf, ArePlain, ArePlain-prop, callable_of, initializer_of};
 ghost use Rattle.rr_eval.specs.Nodes.{AreEvaluated, AreEvaluated-prop, evaluated_tree, IsEvaluated};
-ghost use Rattle.rr_eval.specs.SimpleParts.{AreSimple, AreSimple-prop, IsSimple};
+ghost use Rattle.rr_eval.specs.SimpleParts.{AreSimple, AreSimple-prop, IsSimple, links_of};
 ghost use Rattle.rr_eval.specs.Speaking.{symbol_asked};
 ghost use Rattle.rr_eval.specs.Turns.{context_of};
 
 use crate::asking::Saying;
 use crate::call::Callee;
+use crate::chains::{Chain, Link};
 use crate::evaluated_nodes::evaluated_nodes;
 use crate::initializers::{Initializer, initializer_of, initializers};
 use crate::operator_symbols::OperatorSymbols;
@@ -33,7 +34,7 @@ use crate::plain_methods::{
 };
 use crate::ractor_method::ractor_method;
 use crate::serve::method_of;
-use crate::simple_parts::{SimplePart, simple_parts};
+use crate::simple_parts::{SimplePart, SimpleParts, simple_parts};
 use rr_base::{ClassId, Sym};
 use rr_builtin::{
     BuiltInMethod, Iteration, Iterations, Methods, has, iterations_have_names, may_make,
@@ -91,8 +92,8 @@ pub struct Prepared {
     initializers: Vec<Option<Initializer>>,
     /// The nodes that are evaluated at its places, by these.
     nodes: Vec<Node>,
-    /// What its parts are, by their places.
-    parts: Vec<SimplePart>,
+    /// What its parts are.
+    pub(crate) simple: SimpleParts,
     ghost finds: { IsTableOf program table } by { IsTableOf-prop program table },
     ghost operates: { AreSymbolsOf program operators },
     ghost speaks: { number_in to_s ≡ symbol_named program (codes "to_s") },
@@ -102,7 +103,7 @@ pub struct Prepared {
     ghost plains: { ArePlain (context_of program) plain.items } by { ArePlain-prop (context_of program) plain.items },
     ghost initializes: { AreInitializers (context_of program) initializers.items } by { AreInitializers-prop (context_of program) initializers.items },
     ghost evaluates: { AreEvaluated program.nodes.items nodes.items } by { AreEvaluated-prop program.nodes.items nodes.items },
-    ghost simples: { AreSimple program parts.items } by { AreSimple-prop program parts.items },
+    ghost simples: { AreSimple program simple.links.items simple.parts.items } by { AreSimple-prop program simple.links.items simple.parts.items },
 }
 
 impl Prepared {
@@ -119,7 +120,7 @@ impl Prepared {
         let plain = plain_methods(alloc, &program, &table, &methods, &iterations)?;
         let initializers = initializers(alloc, &program, &table, &operators)?;
         let nodes = evaluated_nodes(alloc, &program)?;
-        let parts = simple_parts(alloc, &program, &plain)?;
+        let simple = simple_parts(alloc, &program, &plain)?;
         Ok(Prepared {
             program,
             table,
@@ -131,7 +132,7 @@ impl Prepared {
             plain,
             initializers,
             nodes,
-            parts,
+            simple,
         })
     }
 
@@ -175,10 +176,22 @@ impl Prepared {
     /// What the part at a place is, where one stands there.
     #[inline(always)]
     pub(crate) fn part(&self, place: NodeId) -> Option<&SimplePart>
-        ensures { IfSome result (λ s. IsSimple self.now.program (tree_at self.now.program.nodes.items place) s.now) }
+        ensures { IfSome result (λ s. IsSimple self.now.program self.now.simple.links.items (tree_at self.now.program.nodes.items place) s.now) }
     {
-        match self.parts.get(place as usize) {
+        match self.simple.parts.get(place as usize) {
             Some(part) => Some(part),
+            None => None,
+        }
+    }
+
+    /// The links of a chain, where they lie there.
+    #[inline(always)]
+    pub(crate) fn links(&self, chain: Chain) -> Option<&[Link]>
+        ensures { IfSome result (λ links. links.now ≡ links_of self.now.simple.links.items chain) }
+    {
+        let from = chain.from as usize;
+        match self.simple.links.get(from..from + chain.count as usize) {
+            Some(links) => Some(links),
             None => None,
         }
     }

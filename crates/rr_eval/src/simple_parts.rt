@@ -1,11 +1,13 @@
 //! Parts that are evaluated without a frame most often, read out of the program beforehand.
 
-ghost use Rattle.std.specs.Prelude.{◌≡◌, Some, IfOk, IfSome};
+ghost use Rattle.std.specs.Prelude.{◌≡◌, List, Some, IfOk, IfSome, OnOk};
 ghost use Rattle.rr_tree.specs.Tree.{tree_at};
 ghost use Rattle.rr_eval.specs.Nodes.{evaluated_tree, IsEvaluated};
 ghost use Rattle.rr_eval.specs.SimpleParts.{AreSimple, IsSimple, literal_of, operand_of, operation_of, simple_of};
+ghost use Rattle.rr_eval.specs.declared.chains.Link.{Link};
 
 use crate::call_stack::Variable;
+use crate::chains::{Chain, Link, chain_behind};
 use crate::constant::own_class;
 use crate::nodes::evaluated_node;
 use crate::plain_methods::PlainMethod;
@@ -30,11 +32,19 @@ pub enum SimplePart {
     Value(Ref),
     /// `self`.
     Itself,
-    /// What is taken for an instance variable, for an attribute of an object that a variable holds, for a global variable or for a constant
-    /// that is no class of the program.
-    Reading,
+    /// A part for which a function of its own is called: a chain of operators, or, where that has no links, what is taken for an instance
+    /// variable, for an attribute of an object that a variable holds, for a global variable or for a constant that is no class of the
+    /// program.
+    Apart(Chain),
     /// A part that needs a frame.
     Other,
+}
+
+/// What the parts of a program are, by their places, and the links of the chains among them.
+#[derive(Drop)]
+pub struct SimpleParts {
+    pub parts: Vec<SimplePart>,
+    pub links: Vec<Link>,
 }
 
 /// The operand that stands at a place.
@@ -127,9 +137,9 @@ fn is_reading(program: &Program, plain: &Vec<PlainMethod>, node: Node) -> bool {
     }
 }
 
-/// What the part at a place is, or is taken for.
+/// What the part at a place is, or is taken for, chains left out.
 fn part_at(program: &Program, plain: &Vec<PlainMethod>, place: NodeId) -> SimplePart
-    ensures { IsSimple program.now (tree_at program.now.nodes.items place) result }
+    ensures { (links : List Link) → IsSimple program.now links (tree_at program.now.nodes.items place) result }
 {
     let node = evaluated_node(program, place);
     if let Some(value) = literal(program, node) {
@@ -137,25 +147,49 @@ fn part_at(program: &Program, plain: &Vec<PlainMethod>, place: NodeId) -> Simple
     }
     match node {
         Node::Itself => SimplePart::Itself,
-        _ if is_reading(program, plain, node) => SimplePart::Reading,
+        _ if is_reading(program, plain, node) => SimplePart::Apart(Chain::NONE),
         _ => simple(program, node),
     }
 }
 
-/// What the parts of a program are, by their places. The only fault is want of memory.
+/// What the part at a place is, or is taken for, behind those before it. Links of a chain that ends with it are put behind the others.
+fn part_behind(
+    program: &Program,
+    plain: &Vec<PlainMethod>,
+    parts: &Vec<SimplePart>,
+    links: &mut Vec<Link>,
+    place: NodeId,
+) -> Result<SimplePart, AllocError>
+    requires { AreSimple program.now links.old.items parts.now.items }
+    ensures part { IfOk result (IsSimple program.now links.new.items (tree_at program.now.nodes.items place)) }
+    ensures parts { OnOk result (AreSimple program.now links.new.items parts.now.items) }
+{
+    let part = part_at(program, plain, place);
+    if let SimplePart::Other = part
+        && let Node::Binary(op, a, b) = evaluated_node(program, place)
+        && let Some(chain) = chain_behind(program, parts, links, op, a, b)?
+    {
+        return Ok(SimplePart::Apart(chain));
+    }
+    Ok(part)
+}
+
+/// What the parts of a program are. The only fault is want of memory.
 pub fn simple_parts(
     alloc: Global,
     program: &Program,
     plain: &Vec<PlainMethod>,
-) -> Result<Vec<SimplePart>, AllocError>
-    ensures { IfOk result (λ parts. AreSimple program.now parts.items) }
+) -> Result<SimpleParts, AllocError>
+    ensures { IfOk result (λ simple. AreSimple program.now simple.links.items simple.parts.items) }
 {
     let mut parts = Vec::new(alloc);
+    let mut links = Vec::new(alloc);
     for number in 0..program.nodes.len() {
         let Ok(place) = u32::try_from(number) else {
-            return Ok(parts);
+            return Ok(SimpleParts { parts, links });
         };
-        parts.push(part_at(program, plain, place))?;
+        let part = part_behind(program, plain, &parts, &mut links, place)?;
+        parts.push(part)?;
     }
-    Ok(parts)
+    Ok(SimpleParts { parts, links })
 }

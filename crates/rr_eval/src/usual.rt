@@ -116,7 +116,7 @@ impl Engine {
     /// The value of a part, where that is a literal, a class of the program, a variable, `self`, or an operator on a variable and a leaf
     /// that are integers.
     #[inline(always)]
-    fn quick_simple(&self, prepared: &Prepared, place: NodeId) -> Option<Quick>
+    pub fn quick_simple(&self, prepared: &Prepared, place: NodeId) -> Option<Quick>
         ensures takes { (t : Table) → IfSome result (λ q. TakesNow prepared.now.program (view_of self.now) t (tree_at prepared.now.program.nodes.items place) q.steps q.value) }
         ensures plain { IfSome result (λ _. is_splat (tree_at prepared.now.program.nodes.items place) ≡ false) }
         ensures some { IfSome result (λ q. 0 < q.steps) }
@@ -144,17 +144,17 @@ impl Engine {
         }
     }
 
-    /// The value of such a part, or of one that reads what an object holds.
+    /// The value of such a part, or of one for which a function of its own is called.
     #[inline(always)]
     pub fn quick(&self, prepared: &Prepared, space: &Space, place: NodeId) -> Option<Quick>
         ensures takes { IfSome result (λ q. TakesNow prepared.now.program (view_of self.now) space.now (tree_at prepared.now.program.nodes.items place) q.steps q.value) }
         ensures plain { IfSome result (λ _. is_splat (tree_at prepared.now.program.nodes.items place) ≡ false) }
         ensures some { IfSome result (λ q. 0 < q.steps) }
-        ensures few { IfSome result (λ q. q.steps ≤ 3) }
+        ensures few { IfSome result (λ q. q.steps ≤ 31) }
         ensures within { (clusters : Option Below) → AreReached (reach (length space.now.slots) clusters) (view_of self.now) → IfSome result (λ q. IsReached (reach (length space.now.slots) clusters) q.value) }
     {
         match prepared.part(place) {
-            Some(&SimplePart::Reading) => self.quick_reading(prepared, space, place),
+            Some(&SimplePart::Apart(_)) => self.quick_apart(prepared, space, place),
             _ => self.quick_simple(prepared, place),
         }
     }
@@ -172,11 +172,11 @@ impl Engine {
         ensures takes { IfSome result (λ q. TakesNow prepared.now.program (view_of self.now) space.now (tree_at prepared.now.program.nodes.items place) q.steps q.value) }
         ensures plain { IfSome result (λ _. is_splat (tree_at prepared.now.program.nodes.items place) ≡ false) }
         ensures some { IfSome result (λ q. 0 < q.steps) }
-        ensures few { IfSome result (λ q. q.steps ≤ 3) }
+        ensures few { IfSome result (λ q. q.steps ≤ 31) }
         ensures enough { IfSome result (λ q. stop + q.steps < self.now.left) }
         ensures within { (clusters : Option Below) → AreReached (reach (length space.now.slots) clusters) (view_of self.now) → IfSome result (λ q. IsReached (reach (length space.now.slots) clusters) q.value) }
     {
-        if self.left - stop <= 3 {
+        if self.left - stop <= 31 {
             return None;
         }
         match self.quick(prepared, space, place) {

@@ -45,7 +45,7 @@ impl Engine {
         requires method { (h : Course) → Some (callable_of prepared.now.program.nodes.items definition) ≡ own_method (context_of prepared.now.program) name.0 (state_of prepared.now.program (view_of self.old) space.now h).memory }
         requires takes { TakesNow prepared.now.program (view_of self.old) space.now (tree_at prepared.now.program.nodes.items first) found.steps found.value }
         requires plain { is_splat (tree_at prepared.now.program.nodes.items first) ≡ false }
-        requires few { found.steps ≤ 3 }
+        requires few { found.steps ≤ 31 }
         requires enough { stop + found.steps < self.old.left }
         requires value { (clusters : Option Below) → AreReached (reach (length space.now.slots) clusters) (view_of self.old) → IsReached (reach (length space.now.slots) clusters) found.value }
         requires room { length self.old.frames.items < vec_capacity self.old.frames }
@@ -81,7 +81,7 @@ impl Engine {
         requires script { rule (context_of prepared.now.program) (tree_at prepared.now.program.nodes.items here) ≡ arguments (context_of prepared.now.program) (trees_before prepared.now.program.nodes.items (first + 1) 1) [] (finish (context_of prepared.now.program) Target.Yield) }
         requires takes { TakesNow prepared.now.program (view_of self.old) space.now (tree_at prepared.now.program.nodes.items first) found.steps found.value }
         requires plain { is_splat (tree_at prepared.now.program.nodes.items first) ≡ false }
-        requires few { found.steps ≤ 3 }
+        requires few { found.steps ≤ 31 }
         requires enough { stop + found.steps < self.old.left }
         requires value { (clusters : Option Below) → AreReached (reach (length space.now.slots) clusters) (view_of self.old) → IsReached (reach (length space.now.slots) clusters) found.value }
         requires room { length self.old.frames.items < vec_capacity self.old.frames }

@@ -54,7 +54,7 @@ impl Engine {
         requires comes { ComesTo prepared.now.program (view_of self.old) space.now (rule (context_of prepared.now.program) (tree_at prepared.now.program.nodes.items here)) found.steps (arguments (context_of prepared.now.program) [] (found.value ∷ []) (finish (context_of prepared.now.program) (Aim.Call (Called.Name name)))) }
         requires joins { joined_by (context_of prepared.now.program) space.now (Called.Name name) found.value ≡ None }
         requires method { Some (callable_of prepared.now.program.nodes.items definition) ≡ method_for (context_of prepared.now.program) space.now found.value (Called.Name name) }
-        requires few { found.steps ≤ 3 }
+        requires few { found.steps ≤ 31 }
         requires enough { stop + found.steps < self.old.left }
         requires value { (clusters : Option Below) → AreReached (reach (length space.now.slots) clusters) (view_of self.old) → IsReached (reach (length space.now.slots) clusters) found.value }
         requires room { length self.old.frames.items < vec_capacity self.old.frames }
@@ -97,7 +97,7 @@ impl Engine {
         requires method { Some (callable_of prepared.now.program.nodes.items definition) ≡ method_for (context_of prepared.now.program) space.now found.value (Called.Name name) }
         requires takes { TakesNow prepared.now.program (view_of self.old) space.now (tree_at prepared.now.program.nodes.items first) argument.steps argument.value }
         requires plain { is_splat (tree_at prepared.now.program.nodes.items first) ≡ false }
-        requires few { found.steps + argument.steps ≤ 6 }
+        requires few { found.steps + argument.steps ≤ 62 }
         requires enough { stop + found.steps + argument.steps < self.old.left }
         requires value { (clusters : Option Below) → AreReached (reach (length space.now.slots) clusters) (view_of self.old) → IsReached (reach (length space.now.slots) clusters) found.value }
         requires last { (clusters : Option Below) → AreReached (reach (length space.now.slots) clusters) (view_of self.old) → IsReached (reach (length space.now.slots) clusters) argument.value }
@@ -198,7 +198,7 @@ impl Engine {
         requires comes { ComesTo prepared.now.program (view_of self.old) space.now (rule (context_of prepared.now.program) (tree_at prepared.now.program.nodes.items here)) found.steps (arguments (context_of prepared.now.program) (trees_before prepared.now.program.nodes.items (first + count) count) (found.value ∷ []) (finish (context_of prepared.now.program) (Aim.Call (Called.Name name)))) }
         requires joins { joined_by (context_of prepared.now.program) space.now (Called.Name name) found.value ≡ None }
         requires method { Some (callable_of prepared.now.program.nodes.items definition) ≡ method_for (context_of prepared.now.program) space.now found.value (Called.Name name) }
-        requires few { found.steps ≤ 3 }
+        requires few { found.steps ≤ 31 }
         requires small { first + count < 2 ^ 32 }
         requires enough { stop + found.steps < self.old.left }
         requires value { (clusters : Option Below) → AreReached (reach (length space.now.slots) clusters) (view_of self.old) → IsReached (reach (length space.now.slots) clusters) found.value }
@@ -245,7 +245,7 @@ impl Engine {
     ) -> bool
         requires control { self.old.control ≡ Control.Enter here }
         requires comes { ComesTo prepared.now.program (view_of self.old) space.now (rule (context_of prepared.now.program) (tree_at prepared.now.program.nodes.items here)) found.steps (arguments (context_of prepared.now.program) (trees_before prepared.now.program.nodes.items (first + count) count) (found.value ∷ []) (finish (context_of prepared.now.program) (Aim.Call (Called.Name name)))) }
-        requires few { found.steps ≤ 3 }
+        requires few { found.steps ≤ 31 }
         requires small { first + count < 2 ^ 32 }
         requires enough { stop + found.steps < self.old.left }
         requires value { (clusters : Option Below) → AreReached (reach (length space.now.slots) clusters) (view_of self.old) → IsReached (reach (length space.now.slots) clusters) found.value }
@@ -287,7 +287,7 @@ impl Engine {
     ) -> bool
         requires control { self.old.control ≡ Control.Enter here }
         requires comes { ComesTo prepared.now.program (view_of self.old) space.now (rule (context_of prepared.now.program) (tree_at prepared.now.program.nodes.items here)) found.steps (arguments (context_of prepared.now.program) (trees_before prepared.now.program.nodes.items (first + count) count) (found.value ∷ []) (finish (context_of prepared.now.program) (Aim.Call (Called.Name name)))) }
-        requires few { found.steps ≤ 3 }
+        requires few { found.steps ≤ 31 }
         requires small { first + count < 2 ^ 32 }
         requires enough { stop + found.steps < self.old.left }
         requires value { (clusters : Option Below) → AreReached (reach (length space.now.slots) clusters) (view_of self.old) → IsReached (reach (length space.now.slots) clusters) found.value }

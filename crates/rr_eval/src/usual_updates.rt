@@ -51,11 +51,11 @@ impl Engine {
     ) -> Option<Quick>
         requires some { stop < self.now.left }
         ensures takes { IfSome result (λ q. TakesNow prepared.now.program (view_of self.now) space.now (binary op (tree_at prepared.now.program.nodes.items a) (tree_at prepared.now.program.nodes.items b)) q.steps q.value) }
-        ensures few { IfSome result (λ q. q.steps ≤ 7) }
+        ensures few { IfSome result (λ q. q.steps ≤ 63) }
         ensures enough { IfSome result (λ q. stop + q.steps < self.now.left) }
         ensures within { (clusters : Option Below) → AreReached (reach (length space.now.slots) clusters) (view_of self.now) → IfSome result (λ q. IsReached (reach (length space.now.slots) clusters) q.value) }
     {
-        if self.left - stop <= 7 {
+        if self.left - stop <= 63 {
             return None;
         }
         let Some(left) = self.quick(prepared, space, a) else {

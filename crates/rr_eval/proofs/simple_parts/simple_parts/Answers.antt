@@ -9,7 +9,8 @@ loop-number-preserved c =
     let p = c.args.program.now in
     let now = c.loop-number.invariant in
     let all = c.loop-number.parts.items in
-    let part = c.part_at.result in
+    let links = c.part_behind.new.links.items in
+    let part = c.in_ok-part.part in
     let at : length all ≡ c.in-Ok.place = omega (arith, now.1, c.in-Ok.ensures) in
     let items = c.in_ok-push.ensures.items in
-    (subst (AreSimple p) (sym items) (simple_more p all part c.in-Ok.place at now.0 c.part_at.ensures), ap length items ∙ length-append all (part ∷ []) ∙ ap (λ n. n + 1) now.1)
+    (subst (AreSimple p links) (sym items) (simple_more p links all part c.in-Ok.place at c.in_ok-part.ensures.parts c.in_ok-part.ensures.part), ap length items ∙ length-append all (part ∷ []) ∙ ap (λ n. n + 1) now.1)

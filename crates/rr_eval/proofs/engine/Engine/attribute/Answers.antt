@@ -15,6 +15,6 @@ returns-in-Some-clause-takes c =
     let t = c.args.space.now in
     let tree = tree_at p.nodes.items c.args.receiver in
     let part = c.in-Some-Variable in
-    let is = subst (IsSimple p tree) part.field-0-is part.ensures in
+    let is = subst (IsSimple p c.args.prepared.now.simple.links.items tree) part.field-0-is part.ensures in
     let holds = subst (TakesNow p m t tree 1) (sym c.variable.ensures.value) (variable_takes p m t tree part.variable is) in
     attribute_takes p m t tree c.args.name 1 c.variable.result c.in-Some.value holds c.in-Some.ensures.reads

@@ -12,5 +12,5 @@ returns-in-Some c =
     let test = c.in-Some.ensures.lookup.0 in
     let inside : x < length all = grind (arith, nat_tests) in
     let at : slice_get all x ≡ Some found = slice_get-get_or all x found inside ∙ ap Some (sym c.in-Some.ensures.lookup.1) in
-    let there : slice_get c.args.self.now.parts.items x ≡ Some found = ap (λ l. slice_get l x) (sym c.deref.ensures.value) ∙ at in
+    let there : slice_get c.args.self.now.simple.parts.items x ≡ Some found = ap (λ l. slice_get l x) (sym c.deref.ensures.value) ∙ at in
     c.args.self.now.simples x found there

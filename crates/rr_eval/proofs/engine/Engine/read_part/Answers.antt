@@ -8,7 +8,7 @@ use Rattle.rr_eval.specs.Nodes.{evaluated_tree}
 use Rattle.rr_eval.specs.Usual.{TakesNow}
 use Rattle.rr_eval.specs.Views.{view_of}
 use Rattle.rr_eval.proofs.Readings.{constant_takes, field_takes}
-use Rattle.rr_eval.proofs.engine.Engine.reading.Goals as goal
+use Rattle.rr_eval.proofs.engine.Engine.read_part.Goals as goal
 
 pub returns-in-Some-clause-takes : goal.returns-in-Some-clause-takes
 returns-in-Some-clause-takes c =
