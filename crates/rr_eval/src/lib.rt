@@ -88,6 +88,7 @@ mod usual_attributes;
 mod usual_blocks;
 mod usual_bodies;
 mod usual_calls;
+mod usual_ends;
 mod usual_finish;
 mod usual_given;
 mod usual_new;

@@ -145,13 +145,13 @@ impl Engine {
         ensures left { stop ≤ self.new.left }
         ensures kept { self.new.left ≤ self.old.left }
         ensures spends { IsTrue result → self.new.left < self.old.left }
-        ensures size { IsTrue result → size (view_of self.new) ≤ 3 * length self.old.frames.items + 4 }
+        ensures falls { IsTrue result → power (view_of self.new) + self.old.left ≤ 9 * self.old.left + self.new.left + 3 * length self.old.frames.items }
         ensures same { IsFalse result → self.new ≡ self.old }
     {
         match self.combined(prepared, space, op, a, b, stop) {
             Some(found) => {
                 self.left -= found.steps + 1;
-                self.store(variable, found.value);
+                self.store_usual(prepared, space, variable, found.value, stop);
                 true
             }
             None => false,

@@ -23,7 +23,6 @@ use crate::frame::{Control, Frame};
 use crate::nodes::evaluated_node;
 use crate::prepared::Prepared;
 use crate::problem::Answer;
-use rr_base::Sym;
 use rr_builtin::is_truthy;
 use rr_space::{Ref, Space};
 use rr_tree::{BinaryOperator, Node, NodeId, Program};
@@ -238,7 +237,7 @@ impl Engine {
     {
         let frame = Frame::Store(variable);
         if let Some(value) = self.first_value(prepared, space, here, frame, value, stop) {
-            self.store(variable, value);
+            self.store_usual(prepared, space, variable, value, stop);
         }
     }
 
@@ -319,24 +318,6 @@ impl Engine {
                 self.visit_statements(&prepared.program, here, first, count, stop);
             }
         }
-    }
-
-    /// Evaluates an instance variable of `self`.
-    #[inline(always)]
-    fn visit_field(&mut self, program: &Program, space: &Space, here: NodeId, name: Sym, stop: u64)
-        requires control { self.old.control ≡ Control.Enter here }
-        requires tree { tree_at program.now.nodes.items here ≡ evaluated_tree program.now.nodes.items (Node.Field name) }
-        requires some { stop < self.old.left }
-        requires nested { IsNested (view_of self.old) }
-        ensures goes { (h : Course) → remaining program.now (view_of self.old) space.now h ≡ remaining program.now (view_of self.new) space.now h }
-        ensures nested { IsNested (view_of self.new) }
-        ensures within { (clusters : Option Below) → AreReached (reach (length space.now.slots) clusters) (view_of self.old) → AreReached (reach (length space.now.slots) clusters) (view_of self.new) }
-        ensures left { stop ≤ self.new.left }
-        ensures spends { self.new.left < self.old.left }
-        ensures falls { power (view_of self.new) + self.old.left ≤ power (view_of self.old) + self.new.left }
-    {
-        self.open_field(space, name);
-        self.left -= 1;
     }
 
     /// Evaluates a node of another kind, where that is usual: it answers whether it was done.
@@ -467,32 +448,37 @@ impl Engine {
         ensures spends { IsTrue result → self.new.left < self.old.left }
         ensures falls { power (view_of self.new) + self.old.left ≤ power (view_of self.old) + self.new.left }
     {
-        match prepared.node(here) {
-            Some(&Node::Choose(condition, yes, no)) => {
-                self.visit_choice(prepared, space, here, condition, yes, no, stop);
-            }
-            Some(
-                &Node::Assign {
-                    depth,
-                    slot,
-                    value,
-                    ..
-                },
-            ) => self.visit_store(prepared, space, here, Variable { depth, slot }, value, stop),
-            Some(&Node::Binary(op, a, b)) => self.visit_operands(
-                prepared, space, here, op, a, b, stop,
-            ),
-            Some(
-                &Node::Call {
-                    name,
-                    first,
-                    count,
-                    ..
-                },
-            ) => return self.call_usual(prepared, space, here, name, first, count, stop),
-            Some(node) => return self.visit_called(prepared, space, here, node, stop),
-            None => return false,
+        let Some(node) = prepared.node(here) else {
+            return false;
+        };
+        if let &Node::Choose(condition, yes, no) = node {
+            self.visit_choice(prepared, space, here, condition, yes, no, stop);
+            return true;
         }
-        true
+        if let &Node::Assign {
+            depth,
+            slot,
+            value,
+            ..
+        } = node
+        {
+            let variable = Variable { depth, slot };
+            self.visit_store(prepared, space, here, variable, value, stop);
+            return true;
+        }
+        if let &Node::Binary(op, a, b) = node {
+            self.visit_operands(prepared, space, here, op, a, b, stop);
+            return true;
+        }
+        if let &Node::Call {
+            name,
+            first,
+            count,
+            ..
+        } = node
+        {
+            return self.call_usual(prepared, space, here, name, first, count, stop);
+        }
+        self.visit_called(prepared, space, here, node, stop)
     }
 }

@@ -173,6 +173,31 @@ impl Engine {
         self.left -= 1;
     }
 
+    /// Evaluates an instance variable of `self`.
+    #[inline(always)]
+    pub fn visit_field(
+        &mut self,
+        program: &Program,
+        space: &Space,
+        here: NodeId,
+        name: Sym,
+        stop: u64,
+    )
+        requires control { self.old.control ≡ Control.Enter here }
+        requires tree { tree_at program.now.nodes.items here ≡ evaluated_tree program.now.nodes.items (Node.Field name) }
+        requires some { stop < self.old.left }
+        requires nested { IsNested (view_of self.old) }
+        ensures goes { (h : Course) → remaining program.now (view_of self.old) space.now h ≡ remaining program.now (view_of self.new) space.now h }
+        ensures nested { IsNested (view_of self.new) }
+        ensures within { (clusters : Option Below) → AreReached (reach (length space.now.slots) clusters) (view_of self.old) → AreReached (reach (length space.now.slots) clusters) (view_of self.new) }
+        ensures left { stop ≤ self.new.left }
+        ensures spends { self.new.left < self.old.left }
+        ensures falls { power (view_of self.new) + self.old.left ≤ power (view_of self.old) + self.new.left }
+    {
+        self.open_field(space, name);
+        self.left -= 1;
+    }
+
     /// Evaluates what is assigned to an instance variable of `self`.
     #[inline(always)]
     pub fn visit_set_field(
@@ -226,8 +251,23 @@ impl Engine {
         ensures spends { IsTrue result → self.new.left < self.old.left }
         ensures falls { power (view_of self.new) + self.old.left ≤ power (view_of self.old) + self.new.left }
     {
+        if let &Node::Block { body, .. } = node {
+            self.visit_body(&prepared.program, here, body, stop);
+            return true;
+        }
+        if let &Node::Rescue {
+            body,
+            first,
+            count,
+            otherwise,
+        } = node
+        {
+            let program = &prepared.program;
+            let end = first + count;
+            self.visit_rescue(program, here, body, end, count, otherwise, stop);
+            return true;
+        }
         match node {
-            &Node::Block { body, .. } => self.visit_body(&prepared.program, here, body, stop),
             &Node::Index(_, _)
             | &Node::Append(_, _)
             | &Node::SetIndex { .. }
@@ -235,23 +275,8 @@ impl Engine {
             | &Node::Text(_)
             | &Node::Array { .. }
             | &Node::Interpolation { .. }
-            | &Node::Hash { .. } => return false,
-            &Node::Rescue {
-                body,
-                first,
-                count,
-                otherwise,
-            } => self.visit_rescue(
-                &prepared.program,
-                here,
-                body,
-                first + count,
-                count,
-                otherwise,
-                stop,
-            ),
-            _ => return self.visit_apart(prepared, space, here, stop),
+            | &Node::Hash { .. } => false,
+            _ => self.visit_apart(prepared, space, here, stop),
         }
-        true
     }
 }

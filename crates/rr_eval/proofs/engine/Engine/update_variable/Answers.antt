@@ -19,10 +19,9 @@ returns-in-Some-clause-goes c = λ _ h.
     let found = c.in-Some.found in
     let enough = c.in-Some.ensures.enough in
     under_tree p m t (tree_at ns c.args.here) (binary c.args.op (tree_at ns c.args.a) (tree_at ns c.args.b)) found.steps found.value (Store c.args.variable) h (ap (first_tree ns) c.requires.control) c.requires.script tt c.in-Some.ensures.takes (omega (arith, enough))
-    ∙ c.store.ensures.goes p t h (m.left - (found.steps + 1))
-    ∙ ap (remaining_with p (view_of c.store.new.self) t h) (sym c.store.ensures.left)
+    ∙ c.store_usual.ensures.goes h
 
 pub returns-in-Some-clause-within : goal.returns-in-Some-clause-within
 returns-in-Some-clause-within c clusters h =
     let k = reach (length c.args.space.now.slots) clusters in
-    c.store.ensures.within k (with_left k (view_of c.args.self.now) _ h) (c.in-Some.ensures.within clusters h)
+    c.store_usual.ensures.within clusters (with_left k (view_of c.args.self.now) _ h) (c.in-Some.ensures.within clusters h)

@@ -9,24 +9,21 @@ use Rattle.rr_eval.proofs.engine.Engine.visit_often.Goals as goal
 pub visit_choice-requires-clause-tree : goal.visit_choice-requires-clause-tree
 visit_choice-requires-clause-tree c =
     let p = c.args.prepared.now.program in
-    let node = c.in-Some-Choose in
-    node.ensures.tree ∙ ap (evaluated_tree p.nodes.items) node.field-0-is
+    c.in-Some.ensures.tree ∙ ap (evaluated_tree p.nodes.items) c.in-Choose.is
 
 pub visit_store-requires-clause-script : goal.visit_store-requires-clause-script
 visit_store-requires-clause-script c =
     let p = c.args.prepared.now.program in
-    let node = c.in-Some-Assign in
-    λ _. ap (rule (context_of p)) (node.ensures.tree ∙ ap (evaluated_tree p.nodes.items) node.field-0-is)
+    λ _. ap (rule (context_of p)) (c.in-Some.ensures.tree ∙ ap (evaluated_tree p.nodes.items) c.in-Assign.is)
 
 pub visit_operands-requires-clause-tree : goal.visit_operands-requires-clause-tree
 visit_operands-requires-clause-tree c =
     let p = c.args.prepared.now.program in
-    let node = c.in-Some-Binary in
-    node.ensures.tree ∙ ap (evaluated_tree p.nodes.items) node.field-0-is
+    c.in-Some.ensures.tree ∙ ap (evaluated_tree p.nodes.items) c.in-Binary.is
 
 pub call_usual-requires-clause-script : goal.call_usual-requires-clause-script
 call_usual-requires-clause-script c =
     let p = c.args.prepared.now.program in
     let ns = p.nodes.items in
-    let x = c.in-Some-Call in
-    ap (rule (context_of p)) (x.ensures.tree ∙ ap (evaluated_tree ns) x.field-0-is) ∙ sym (call_is ns (context_of p) x.name x.first x.count x.field-0-3)
+    let x = c.in-Call in
+    ap (rule (context_of p)) (c.in-Some.ensures.tree ∙ ap (evaluated_tree ns) x.is) ∙ sym (call_is ns (context_of p) x.name x.first x.count x.site)
