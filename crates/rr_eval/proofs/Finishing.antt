@@ -1,5 +1,6 @@
 -- What is done with values, the last of which came last.
-use Rattle.std.proofs.Common.{◌≡◌, ◌-◌, ℕ, suc, sym, ap, false, List, [], ◌∷◌, ◌++◌, take, drop, reverse, slice_index_or, Some, None}
+use Rattle.std.proofs.lemmas.List.{drop_all, take_all}
+use Rattle.std.proofs.Common.{◌≡◌, ◌≤◌, ◌∙◌, ◌-◌, ℕ, suc, sym, length, ap, false, List, [], ◌∷◌, ◌++◌, take, drop, reverse, slice_index_or, Some, None}
 use Rattle.rr_parser.specs.Grammar.Names.{is_splat}
 use Rattle.rr_base.specs.declared.name.Sym.{Sym}
 use Rattle.rr_space.specs.Tables.{Table}
@@ -10,6 +11,7 @@ use Rattle.rr_tree.specs.Nodes.{trees_before}
 use Rattle.rr_tree.specs.Tree.{tree_at}
 use Rattle.rr_eval.specs.declared.call.Callee.TheVariants.{Name}
 use Rattle.rr_eval.specs.declared.call.Target.{Target}
+use Rattle.rr_eval.specs.declared.frame.Control.TheVariants.{Give}
 use Rattle.rr_eval.specs.declared.frame.Frame.{Frame}
 use Rattle.rr_eval.specs.declared.frame.Frame.TheVariants.{Argument, Item, Receiver}
 use Rattle.rr_eval.specs.declared.problem.Answer.TheVariants.{Gave}
@@ -20,8 +22,9 @@ use Rattle.rr_eval.specs.Requests.{Course}
 use Rattle.rr_eval.specs.Rules.{on_value, arguments, finish}
 use Rattle.rr_eval.specs.Script.{Go}
 use Rattle.rr_eval.specs.Splats.{spread}
-use Rattle.rr_eval.specs.Turns.{context_of, code_of, state_of, after_answer, after_values}
+use Rattle.rr_eval.specs.Turns.{context_of, code_of, state_of, after_answer, after_values, remaining_with}
 use Rattle.rr_eval.specs.Updating.{sent_first}
+use Rattle.rr_eval.specs.Usual.{GivesAtOnce}
 use Rattle.rr_eval.specs.View.{View}
 
 -- the first of them is sent the others, and has a method of the program
@@ -47,3 +50,13 @@ item_waits p m t target end count base v h n plain =
     let code = code_of p h.world in
     let next = λ (ws : List Ref). arguments own (trees_before p.nodes.items end count) (drop base m.held ++ ws) (finish own target) in
     ap (λ b. unwind code (reverse m.frames) (take base m.held) (runs_in code (spread own b v next) (state_of p m t h) n)) plain
+
+-- a receiver for which no value stands, and what is done with it has a value at once
+pub reads_at_once : (p : Program) (m : View) (t : Table) (target : Target) (end base : ℕ) (v r : Ref) (h : Course) (n : ℕ) → length m.held ≤ base → GivesAtOnce p t (finish (context_of p) target (v ∷ [])) r
+    → after_answer p m t (Receiver target end 0 base) (Gave v) h n ≡ remaining_with p (record m { control = Give (Gave r) }) t h n
+reads_at_once p m t target end base v r h n none gives =
+    let own = context_of p in
+    let code = code_of p h.world in
+    ap (λ vs. unwind code (reverse m.frames) (take base m.held) (runs_in code (finish own target (vs ++ v ∷ [])) (state_of p m t h) n)) (drop_all base m.held none)
+    ∙ ap (λ held. unwind code (reverse m.frames) held (runs_in code (finish own target (v ∷ [])) (state_of p m t h) n)) (take_all base m.held none)
+    ∙ ap (unwind code (reverse m.frames) m.held) (gives m h n)

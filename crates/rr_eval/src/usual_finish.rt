@@ -19,6 +19,7 @@ ghost use Rattle.rr_eval.specs.View.{View};
 ghost use Rattle.rr_eval.specs.Views.{view_of};
 ghost use Rattle.rr_eval.specs.Within.{Reach, reach, AreReached, IsReached};
 
+use crate::attributes::attribute_of;
 use crate::blocks::first_value;
 use crate::call::{Callee, Passing, Target};
 use crate::engine::{Engine, push_within};
@@ -327,6 +328,73 @@ impl Engine {
         self.resume_next(prepared, space, target, end, 1, base, frame, value)
     }
 
+    /// Gives the topmost frame, which waits for the receiver of a call without arguments, its value, where the call reads an attribute: it
+    /// answers whether it was done.
+    #[inline(always)]
+    fn resume_reading(
+        &mut self,
+        prepared: &Prepared,
+        space: &Space,
+        name: Sym,
+        end: NodeId,
+        base: usize,
+        value: Ref,
+    ) -> bool
+        requires control { self.old.control ≡ Control.Give (Answer.Gave value) }
+        requires top { IsTop self.old.frames.items (Waiting.Receiver (Aim.Call (Called.Name name)) end 0 base) }
+        requires nested { IsNested (view_of self.old) }
+        ensures goes { (h : Course) → remaining prepared.now.program (view_of self.old) space.now h ≡ remaining prepared.now.program (view_of self.new) space.now h }
+        ensures nested { IsNested (view_of self.new) }
+        ensures within { (clusters : Option Below) → AreReached (reach (length space.now.slots) clusters) (view_of self.old) → AreReached (reach (length space.now.slots) clusters) (view_of self.new) }
+        ensures left { self.new.left ≡ self.old.left }
+        ensures falls { IsTrue result → size (view_of self.new) < size (view_of self.old) }
+        ensures same { IsFalse result → self.new ≡ self.old }
+    {
+        // No value stands for the frame: the receiver is the first one.
+        if self.held.len() != base {
+            return false;
+        }
+        let Some(read) = attribute_of(prepared, space, value, name) else {
+            return false;
+        };
+        let frame = Frame::Receiver(Target::Call(Callee::Name(name)), end, 0, base);
+        self.take_top(frame, Answer::Gave(value));
+        self.control.give(read);
+        true
+    }
+
+    /// Gives the topmost frame, which waits for the receiver of a call, its value, where that is usual: it answers whether it was done.
+    #[inline(always)]
+    fn resume_received(
+        &mut self,
+        prepared: &Prepared,
+        space: &Space,
+        target: Target,
+        end: NodeId,
+        count: u32,
+        base: usize,
+        value: Ref,
+    ) -> bool
+        requires control { self.old.control ≡ Control.Give (Answer.Gave value) }
+        requires top { IsTop self.old.frames.items (Waiting.Receiver target end count base) }
+        requires nested { IsNested (view_of self.old) }
+        ensures goes { (h : Course) → remaining prepared.now.program (view_of self.old) space.now h ≡ remaining prepared.now.program (view_of self.new) space.now h }
+        ensures nested { IsNested (view_of self.new) }
+        ensures within { (clusters : Option Below) → AreReached (reach (length space.now.slots) clusters) (view_of self.old) → AreReached (reach (length space.now.slots) clusters) (view_of self.new) }
+        ensures left { self.new.left ≡ self.old.left }
+        ensures kept { size (view_of self.new) ≤ size (view_of self.old) }
+        ensures falls { IsTrue result → size (view_of self.new) < size (view_of self.old) }
+    {
+        if let Target::Call(Callee::Name(name)) = target
+            && count == 0
+            && self.resume_reading(prepared, space, name, end, base, value)
+        {
+            return true;
+        }
+        let frame = Frame::Receiver(target, end, count, base);
+        self.resume_listed(prepared, space, frame, value)
+    }
+
     /// Gives the topmost frame a value, where it is such a frame and that is usual: it answers whether it was done.
     #[cold]
     #[inline(never)]
@@ -351,8 +419,7 @@ impl Engine {
                 }
             },
             Some(&Frame::Receiver(target, end, count, base)) => {
-                let frame = Frame::Receiver(target, end, count, base);
-                self.resume_listed(prepared, space, frame, value)
+                self.resume_received(prepared, space, target, end, count, base, value)
             }
             Some(&Frame::Item(target, end, count, base)) => {
                 let frame = Frame::Item(target, end, count, base);

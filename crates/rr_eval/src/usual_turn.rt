@@ -32,6 +32,7 @@ impl Engine {
         requires nested { IsNested (view_of self.old) }
         ensures goes { (p : Program) (t : Table) (h : Course) (n : ℕ) → remaining_with p (record (view_of self.old) { control = Control.Give answer }) t h n ≡ after_answer p (view_of self.new) t frame answer h n }
         ensures nested { Nested (reverse self.new.frames.items) (below_of frame self.new.held.items) }
+        ensures held { self.new.held ≡ self.old.held }
         ensures base { base_of frame ≤ length self.new.held.items }
         ensures within { (k : Reach) → AreReached k (view_of self.old) → AreReached k (view_of self.new) }
         ensures frame { (k : Reach) → AreReached k (view_of self.old) → IsFrameReached k frame }
@@ -53,6 +54,7 @@ impl Engine {
         requires nested { IsNested (view_of self.old) }
         ensures goes { (p : Program) (t : Table) (h : Course) → remaining p (view_of self.old) t h ≡ after_answer p (view_of self.new) t frame answer h self.new.left }
         ensures nested { Nested (reverse self.new.frames.items) (below_of frame self.new.held.items) }
+        ensures held { self.new.held ≡ self.old.held }
         ensures base { base_of frame ≤ length self.new.held.items }
         ensures within { (k : Reach) → AreReached k (view_of self.old) → AreReached k (view_of self.new) }
         ensures frame { (k : Reach) → AreReached k (view_of self.old) → IsFrameReached k frame }
