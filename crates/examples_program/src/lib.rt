@@ -20,6 +20,8 @@ mod calls;
 #[cfg(test)]
 mod causes;
 #[cfg(test)]
+mod chains;
+#[cfg(test)]
 mod classes;
 #[cfg(test)]
 mod constants;
