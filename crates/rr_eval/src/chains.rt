@@ -44,11 +44,11 @@ impl Chain {
 /// The most links of a chain: what is done at once has few steps.
 const LONGEST: u32 = 7;
 
-/// Whether a part is taken for one that a link may have as its right operand.
+/// Whether a part is taken for one that a link may have as its right operand: one that may be an integer.
 fn is_operand(parts: &Vec<SimplePart>, place: NodeId) -> bool {
     match parts.get(place as usize) {
         Some(&SimplePart::Apart(chain)) => chain.count == 0,
-        Some(&SimplePart::Other) | None => false,
+        Some(&SimplePart::Value(_)) | Some(&SimplePart::Other) | None => false,
         Some(_) => true,
     }
 }
@@ -59,7 +59,7 @@ fn chain_at(program: &Program, parts: &Vec<SimplePart>, place: NodeId, from: u32
 {
     match parts.get(place as usize) {
         Some(&SimplePart::Apart(chain)) if chain.count > 0 => Some(chain),
-        Some(&SimplePart::Other) | None => None,
+        Some(&SimplePart::Value(_)) | Some(&SimplePart::Other) | None => None,
         Some(_) => Some(Chain {
             first: place,
             from,
