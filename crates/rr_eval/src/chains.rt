@@ -69,7 +69,7 @@ fn chain_at(program: &Program, parts: &Vec<SimplePart>, place: NodeId, from: u32
 }
 
 /// The chain that ends with an operator on two parts before it, where it is one: a chain, or another part that needs no frame, on its
-/// left, and a part that needs none on its right. Its last link is put behind all others.
+/// left, and a part that needs none on its right. Its last link is put behind all others. The only fault is want of memory.
 pub fn chain_behind(
     program: &Program,
     parts: &Vec<SimplePart>,

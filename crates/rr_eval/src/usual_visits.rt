@@ -451,6 +451,7 @@ impl Engine {
         let Some(node) = prepared.node(here) else {
             return false;
         };
+        // Tests one after the other are one jump table with that of the other kinds; a match would be a table of its own in front of it.
         if let &Node::Choose(condition, yes, no) = node {
             self.visit_choice(prepared, space, here, condition, yes, no, stop);
             return true;
