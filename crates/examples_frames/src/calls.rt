@@ -112,3 +112,25 @@ fn many_frames_and_large_ones(rt: HostRuntime) -> Result<(), Fail> {
     assert_eq!(rt; int(frames.get(9_999, 1)), None);
     Ok(())
 }
+
+#[test]
+fn a_frame_stands_inside_another(rt: HostRuntime) -> Result<(), Fail> {
+    let mut frames = Frames::new(rt.alloc(), 10);
+    assert!(rt; frames.last().is_none());
+    // Nothing was taken yet, in which a frame would have room.
+    assert!(rt; !frames.push_inside(&[], None, TWO_OF_THREE, 0));
+    let outside = Activation { home: 4, ..METHOD };
+    frames.push(&[], None, TWO_OF_THREE, outside)?;
+    frames.push(&[], None, TWO_OF_THREE, METHOD)?;
+    frames.pop();
+    // There is no such frame.
+    assert!(rt; !frames.push_inside(&[], None, TWO_OF_THREE, 1));
+    assert_eq!(rt; frames.len(), 1);
+    assert!(rt; frames.push_inside(&[], Some(Ref::Int(3)), TWO_OF_THREE, 0));
+    assert_eq!(rt; frames.last().map(|a| a.name.0), Some(7));
+    assert_eq!(rt; frames.last().map(|a| a.home), Some(0));
+    assert_eq!(rt; int(frames.get(1, 0)), Some(3));
+    assert_eq!(rt; int(frames.get(1, 1)), None);
+    assert_eq!(rt; int(frames.get(1, 2)), None);
+    Ok(())
+}

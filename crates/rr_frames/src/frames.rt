@@ -1,13 +1,13 @@
 //! A list of frames, whose variables lie in one vector.
 
-ghost use Rattle.std.specs.Prelude.{◌≡◌, nat_lt, ◌∷◌, ◌++◌, [], ◌<◌, length, slice_get, OnOk, OnErr, IfErr, IfSome, IsTrue, IsFalse, if◌then◌else◌};
+ghost use Rattle.std.specs.Prelude.{◌≡◌, nat_lt, ◌-◌, ◌∷◌, ◌++◌, [], ◌<◌, length, slice_get, OnOk, OnErr, IfErr, IfSome, IsTrue, IsFalse, if◌then◌else◌};
 ghost use Rattle.std.specs.Option.{option_map};
 ghost use Rattle.rr_base.specs.declared.fault.Fault.{Fault};
 ghost use Rattle.rr_base.specs.declared.limits.LimitKind.{LimitKind};
-ghost use Rattle.rr_frames.specs.Frames.{no_frames, list_of, laid, read_at, write_at, read_last, write_last, left};
+ghost use Rattle.rr_frames.specs.Frames.{no_frames, list_of, laid, frame_at, read_at, write_at, read_last, write_last, left};
 
 use crate::activation::{Activation, Shape};
-use crate::slots::{append_within, cut_within, last_of, replace_at};
+use crate::slots::{append_within, cut_within, has_room, last_of, lay_within, replace_at};
 use rr_base::{Fault, LimitKind};
 use rr_space::Ref;
 use std::alloc::Global;
@@ -72,6 +72,17 @@ impl Frames {
         ensures { result ≡ option_map (λ f. f.activation) (slice_get self.now.frames number) }
     {
         match self.rows.get(number as usize) {
+            Some(row) => Some(row.activation),
+            None => None,
+        }
+    }
+
+    /// What the last frame has beside its variables.
+    #[inline(always)]
+    pub fn last(&self) -> Option<Activation>
+        ensures { result ≡ option_map (λ f. f.activation) (slice_get self.now.frames (length self.now.frames - 1)) }
+    {
+        match self.rows.last() {
             Some(row) => Some(row.activation),
             None => None,
         }
@@ -181,19 +192,56 @@ impl Frames {
         ensures limit { self.new.limit ≡ self.old.limit }
         ensures declined { IsFalse result → self.new ≡ self.old }
     {
-        let room = self.slots.capacity().saturating_sub(self.slots.len());
         let size = shape.size as usize;
-        if self.rows.len() >= self.limit
+        if !has_room(&self.slots, values, size)
+            || self.rows.len() >= self.limit
             || self.rows.len() >= self.rows.capacity()
-            || room <= values.len()
-            || room < size
         {
             return false;
         }
         let base = self.slots.len();
-        append_within(&mut self.slots, values, last);
-        self.slots.truncate(base + shape.parameters as usize);
-        cut_within(&mut self.slots, base + size);
+        lay_within(&mut self.slots, values, last, shape);
+        self.rows.push_reserved(Row {
+            base,
+            size,
+            activation,
+        });
+        self.base = base;
+        self.size = size;
+        true
+    }
+
+    /// The same, inside another frame: the new one has what that one has beside its variables, but that it is one scope inside it. It is
+    /// not done either where there is no frame of the number.
+    #[inline(always)]
+    pub fn push_inside(
+        &mut self,
+        values: &[Ref],
+        last: Option<Ref>,
+        shape: Shape,
+        home: u32,
+    ) -> bool
+        ensures pushed { IsTrue result → self.new.frames ≡ self.old.frames ++ record { variables = laid shape.parameters shape.size (values.now ++ list_of last); activation = record (frame_at home self.old.frames).activation { home = home } } ∷ [] }
+        ensures room { IsTrue result → length self.old.frames < self.old.limit }
+        ensures limit { self.new.limit ≡ self.old.limit }
+        ensures declined { IsFalse result → self.new ≡ self.old }
+    {
+        let size = shape.size as usize;
+        if !has_room(&self.slots, values, size)
+            || self.rows.len() >= self.limit
+            || self.rows.len() >= self.rows.capacity()
+        {
+            return false;
+        }
+        let Some(outside) = self.rows.get(home as usize) else {
+            return false;
+        };
+        let activation = Activation {
+            home,
+            ..outside.activation
+        };
+        let base = self.slots.len();
+        lay_within(&mut self.slots, values, last, shape);
         self.rows.push_reserved(Row {
             base,
             size,

@@ -1,10 +1,11 @@
 //! The variables of all frames in one vector.
 
-ghost use Rattle.std.specs.Prelude.{◌≡◌, ◌<◌, ◌≤◌, ◌+◌, ◌-◌, ◌++◌, length, take, replicate, vec_capacity, vec_len, slice_set};
+ghost use Rattle.std.specs.Prelude.{◌≡◌, ◌<◌, ◌≤◌, ◌+◌, ◌-◌, ◌++◌, length, take, replicate, vec_capacity, vec_len, slice_set, IsTrue};
 ghost use Rattle.rr_space.specs.declared.refer.Ref.{Ref};
-ghost use Rattle.rr_frames.specs.Frames.{list_of};
+ghost use Rattle.rr_frames.specs.Frames.{laid, list_of};
 ghost use Rattle.rr_frames.specs.Layout.{IsLast};
 
+use crate::activation::Shape;
 use crate::frames::Row;
 use rr_space::Ref;
 
@@ -56,6 +57,30 @@ pub(crate) fn cut_within(slots: &mut Vec<Ref>, end: usize)
     if slots.len() != end {
         fill_within(slots, end);
     }
+}
+
+/// Whether there is room for the variables of one frame more: for so many, and for these values and one.
+#[inline(always)]
+pub(crate) fn has_room(slots: &Vec<Ref>, values: &[Ref], size: usize) -> bool
+    ensures values { IsTrue result → length slots.now.items + length values.now + 1 ≤ vec_capacity slots.now }
+    ensures size { IsTrue result → length slots.now.items + size ≤ vec_capacity slots.now }
+{
+    let room = slots.capacity() - slots.len();
+    values.len() < room && size <= room
+}
+
+/// The variables of one frame more, where there is room: its parameters have the first of the values, and all others are nil. `last` stands
+/// behind `values`.
+#[inline(always)]
+pub(crate) fn lay_within(slots: &mut Vec<Ref>, values: &[Ref], last: Option<Ref>, shape: Shape)
+    requires values { length slots.old.items + length values.now + 1 ≤ vec_capacity slots.old }
+    requires size { length slots.old.items + shape.size ≤ vec_capacity slots.old }
+    ensures { slots.new.items ≡ slots.old.items ++ laid shape.parameters shape.size (values.now ++ list_of last) }
+{
+    let base = slots.len();
+    append_within(slots, values, last);
+    slots.truncate(base + shape.parameters as usize);
+    cut_within(slots, base + shape.size as usize);
 }
 
 /// Where the variables of the last frame lie, and how many it has; 0 and 0 where there is no frame.
