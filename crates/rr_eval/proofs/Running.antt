@@ -77,6 +77,11 @@ module _ (events : ℕ) (p : Program) (m : View) (t : Table) (all : World → Ou
         subst (WritesAll old new) (sym (text-push (context_of p) asked q)) (writes_both old now new (text_asked (context_of p) asked) (piece_asked (context_of p) q) (r.wrote w) written);
   }
 
+  -- a request was served for which nothing is written
+  pub running_silent : (n : View) (u v : Table) (q : Asked) (a : Response) → ((h : Course) → remaining p m t h ≡ asking_then p n u q h) → Alone (context_of p) store q u (record { response = a; table = v }) store
+      → piece_asked (context_of p) q ≡ [] → IsRunning events p (answered n a) v all old now store
+  running_silent n u v q a e reply none = running_more n u v now q a store e reply (subst (WritesAll now now) (sym none) (record { wrote = Appends-nil now.bytes; failed = refl }))
+
   -- a piece could not be written whole
   pub running_failed : (n : View) (u : Table) (new : Written) (q : Asked) → ((h : Course) → remaining p m t h ≡ asking_then p n u q h) → FallsShort now new (piece_asked (context_of p) q)
       → (w : World) → RepliesSo w r.exchanges → FallsShort old new (text_of (context_of p) (all w))

@@ -1,12 +1,14 @@
 //! The environment of a script that runs alone, with its store.
 
-ghost use Rattle.std.specs.Prelude.{◌≡◌, ℕ, List, length, map, Some, Contains, IfOk, IfErr};
+ghost use Rattle.std.specs.Prelude.{◌≡◌, ℕ, List, [], length, map, Some, Contains, IfOk, IfErr, IfSome};
 ghost use Rattle.rr_space.specs.Graph.{Object};
 ghost use Rattle.rr_text.specs.Reads.{IsReadWith};
 ghost use Rattle.rr_builtin.specs.Methods.{method_named};
 ghost use Rattle.rr_eval.specs.Alone.{AloneBy, SpecialExceeds, special_of};
 ghost use Rattle.rr_eval.specs.Published.{published};
 ghost use Rattle.rr_eval.specs.Requests.{asked_of};
+ghost use Rattle.rr_eval.specs.declared.call.Arguments.{Arguments as Lists};
+ghost use Rattle.rr_eval.specs.declared.call.Task.{Task as Tasks};
 ghost use Rattle.rr_eval.specs.declared.request.Request.{Request as Requests};
 ghost use Rattle.rr_eval.specs.Runs.{piece_asked};
 ghost use Rattle.rr_eval.specs.Serves.{IsLeft, IsRefusedBy};
@@ -15,13 +17,15 @@ ghost use Rattle.rr_eval.specs.Within.{reach, IsRequestReached};
 
 use crate::call::{Arguments, Call, Task};
 use crate::copying::shareable_copy;
+use crate::fields::write_field;
 use crate::print::Served;
+use crate::problem::Response;
 use crate::ractor_method::lacks_ractor_methods;
 use crate::request::Request;
 use crate::serve::{serve, serve_field, serve_own};
 use crate::setting::set_constant;
 use crate::special::{Special, special_of};
-use rr_base::Fault;
+use rr_base::{Fault, Sym};
 use rr_builtin::Methods;
 use rr_space::{Ref, Space};
 use rr_store::StoreState;
@@ -90,6 +94,40 @@ fn serve_called_alone(
         return serve_own(alloc, space, store, program, methods, &call);
     }
     serve_apart(alloc, space, store, program, methods, Request::Call(call))
+}
+
+/// The object, its instance variable and the value that a request assigns, where it assigns one.
+#[inline(always)]
+pub fn assigned_field(request: &Request) -> Option<(Ref, Sym, Ref)>
+    ensures { IfSome result (λ x. request.now ≡ Requests.Do (Tasks.SetField x.1) (Lists.Two x.0 x.2)) }
+{
+    match request {
+        &Request::Do(Task::SetField(name), Arguments::Two(object, value)) => {
+            Some((object, name, value))
+        }
+        _ => None,
+    }
+}
+
+/// Gives an instance variable of an object a value, as a script asks that runs alone: nothing is printed. A refused growth leaves the
+/// objects as they were.
+#[inline(always)]
+pub fn set_alone(
+    space: &mut Space,
+    store: &StoreState,
+    program: &Program,
+    object: Ref,
+    name: Sym,
+    value: Ref,
+) -> Result<Response, Fault>
+    requires read { IsReadWith space.old (published store.now) }
+    requires reached { IsRequestReached (reach (length space.old.slots) (Some (published store.now))) (Requests.Do (Tasks.SetField name) (Lists.Two object value)) }
+    ensures piece { piece_asked (context_of program.now) (asked_of space.old (Requests.Do (Tasks.SetField name) (Lists.Two object value))) ≡ [] }
+    ensures replied { IfOk result (λ r. AloneBy (special_of (context_of program.now) (asked_of space.old (Requests.Do (Tasks.SetField name) (Lists.Two object value))) space.old) (context_of program.now) store.now (asked_of space.old (Requests.Do (Tasks.SetField name) (Lists.Two object value))) space.old r space.new store.now) }
+    ensures left { IfOk result (λ r. IsLeft (published store.now) space.old r space.new) }
+    ensures refused { IfErr result (λ f. IsRefusedBy (SpecialExceeds (special_of (context_of program.now) (asked_of space.old (Requests.Do (Tasks.SetField name) (Lists.Two object value))) space.old) (context_of program.now) store.now space.old.limit (asked_of space.old (Requests.Do (Tasks.SetField name) (Lists.Two object value))) space.old) f) }
+{
+    write_field(space, store, object, name, value)
 }
 
 /// Serves a request of a script that runs alone. A refused growth leaves the objects as they were, beside new ones to which nothing

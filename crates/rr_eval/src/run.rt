@@ -14,7 +14,7 @@ ghost use Rattle.rr_eval.specs.Within.{AreReached, AreWithin, reach};
 ghost use Rattle.rr_eval.specs.Runs.{Reads, IsRun, Meets, first_course, program_meaning};
 ghost use Rattle.rr_eval.specs.Script.{World};
 
-use crate::alone::serve_alone;
+use crate::alone::{assigned_field, serve_alone, set_alone};
 use crate::counted::Counted;
 use crate::engine::Turn;
 use crate::exception::report;
@@ -121,9 +121,18 @@ fn run_machine<O: Output>(
     let methods = &prepared.methods;
     let mut store = StoreState::new(alloc, limits.events);
     loop {
-        match machine.turn(prepared, &mut space, turn) {
+        let turned = machine.turn(prepared, &mut space, turn);
+        objects_fit(&space);
+        match turned {
             Ok(Turn::More) => {}
             Ok(Turn::Ask(request)) => {
+                if let Some((object, name, value)) = assigned_field(&request) {
+                    match set_alone(&mut space, &store, program, object, name, value) {
+                        Ok(response) => machine.answer(response),
+                        Err(fault) => return Outcome::Stopped(fault),
+                    }
+                    continue;
+                }
                 match serve_alone(alloc, &mut space, &mut store, program, methods, request) {
                     Ok(served) => {
                         if !put(output, served.piece.as_slice()) {
@@ -134,21 +143,14 @@ fn run_machine<O: Output>(
                     Err(fault) => return Outcome::Stopped(fault),
                 }
             }
-            Ok(Turn::Done(_)) => {
-                objects_fit(&space);
-                return Outcome::Done;
-            }
+            Ok(Turn::Done(_)) => return Outcome::Done,
             Ok(Turn::Raised(exception)) => {
-                objects_fit(&space);
                 return match report(alloc, program, &space, exception) {
                     Ok(told) => Outcome::Raised(told),
                     Err(_) => Outcome::Stopped(Fault::Memory),
                 };
             }
-            Ok(Turn::StepLimit) => {
-                objects_fit(&space);
-                return Outcome::StepLimit;
-            }
+            Ok(Turn::StepLimit) => return Outcome::StepLimit,
             Err(fault) => return Outcome::Stopped(fault),
         }
     }
