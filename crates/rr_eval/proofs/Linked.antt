@@ -1,5 +1,5 @@
 -- Operators one after the other, and where their links lie.
-use Rattle.std.proofs.Common.{◌≡◌, ℕ, suc, ◌+◌, ◌-◌, ◌<◌, ◌≤◌, ◌∙◌, ap, refl, sym, subst, arith, Some, List, [], ◌∷◌, ◌++◌, length, take, drop, slice_get, get_or, false}
+use Rattle.std.proofs.Common.{◌≡◌, ℕ, ◌+◌, ◌-◌, ◌≤◌, ◌∙◌, ap, refl, sym, arith, List, [], ◌∷◌, ◌++◌, length, take, drop, get_or, false}
 use Rattle.std.proofs.lemmas.List.{drop-append-le, take-append-le, take_all, length-drop, length-append}
 use Rattle.rr_parser.specs.Grammar.Names.{is_splat}
 use Rattle.rr_tree.specs.Tree.{Tree, binary, tree_at}

@@ -156,18 +156,21 @@ impl CallStack {
     pub fn running(&self) -> Activation
         ensures { result ≡ running self.now.frames }
     {
-        self.activation(self.top())
+        match self.frames.last() {
+            Some(activation) => activation,
+            None => no_activation(),
+        }
     }
 
-    /// The number of the frame so many scopes outside of the one that runs.
-    fn outer(&self, depth: u32) -> u32
-        ensures { result ≡ outer depth (top self.now.frames) self.now.frames }
+    /// The number of the frame one scope outside of the one that runs, and so many scopes more.
+    fn outside(&self, more: u32) -> u32
+        ensures { result ≡ outer (more + 1) (top self.now.frames) self.now.frames }
     {
-        let mut number = self.top();
-        let mut more = depth;
-        while more > 0 {
+        let mut number = self.running().home;
+        let mut rest = more;
+        while rest > 0 {
             number = self.activation(number).home;
-            more -= 1;
+            rest -= 1;
         }
         number
     }
@@ -179,7 +182,7 @@ impl CallStack {
     {
         match variable.depth {
             0 => self.frames.read(variable.slot),
-            depth => self.frames.get(self.outer(depth), variable.slot),
+            depth => self.frames.get(self.outside(depth - 1), variable.slot),
         }
     }
 
@@ -199,7 +202,7 @@ impl CallStack {
         match variable.depth {
             0 => self.frames.write(variable.slot, value),
             depth => {
-                let number = self.outer(depth);
+                let number = self.outside(depth - 1);
                 self.frames.set(number, variable.slot, value);
             }
         }
@@ -280,8 +283,13 @@ impl CallStack {
         ensures limit { self.new.limit ≡ self.old.limit }
         ensures declined { IsFalse result → self.new ≡ self.old }
     {
-        let activation = self.activation_in(entry);
-        self.frames.push_usual(values, last, shape, activation)
+        match entry {
+            Entry::OfMethod(call) => {
+                let activation = self.activation_of(call);
+                self.frames.push_usual(values, last, shape, activation)
+            }
+            Entry::OfBlock(home) => self.frames.push_inside(values, last, shape, home),
+        }
     }
 
     /// The same with these values alone.

@@ -91,6 +91,26 @@ impl Engine {
         }
     }
 
+    /// Begins with the `count` statements from `first` on.
+    #[tactic(auto, unfolding(crate::specs::Within::AreReached))]
+    #[inline(always)]
+    pub fn begin_list(&mut self, first: NodeId, count: u32)
+        requires small { first + count < 2 ^ 32 }
+        requires room { length self.old.frames.items < vec_capacity self.old.frames }
+        requires nested { IsNested (view_of self.old) }
+        ensures goes { (p : Program) (t : Table) (h : Course) (n : ℕ) → after_script p (view_of self.old) t (statements (trees_before p.nodes.items (first + count) count)) h n ≡ remaining_with p (view_of self.new) t h n }
+        ensures nested { IsNested (view_of self.new) }
+        ensures within { (k : Reach) → AreReached k (view_of self.old) → AreReached k (view_of self.new) }
+        ensures left { self.new.left ≡ self.old.left }
+        ensures size { size (view_of self.new) ≤ 3 * length self.old.frames.items + 4 }
+    {
+        match count {
+            0 => self.control = Control::Give(Answer::Gave(Ref::Nil)),
+            1 => self.control.enter(first),
+            _ => self.enter_above(Frame::Rest(first + count, count - 1), first),
+        }
+    }
+
     /// Evaluates the receiver of a call, and then its arguments, the last `count` parts before `end`.
     #[tactic(auto, unfolding(crate::specs::Within::AreReached))]
     #[inline(always)]

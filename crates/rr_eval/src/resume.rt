@@ -54,8 +54,7 @@ impl Engine {
         ensures same { IsFalse result → self.new ≡ self.old }
     {
         if let Ref::Int(x) = left
-            && self.left > stop
-            && let Some(found) = self.quick_before(prepared, space, b, stop)
+            && let Some(found) = self.quick_soon(prepared, space, b, stop)
             && let Ref::Int(y) = found.value
         {
             self.left -= found.steps;

@@ -159,6 +159,32 @@ impl Engine {
         }
     }
 
+    /// The same, where they may stop at once.
+    #[inline(always)]
+    pub fn quick_soon(
+        &self,
+        prepared: &Prepared,
+        space: &Space,
+        place: NodeId,
+        stop: u64,
+    ) -> Option<Quick>
+        requires within { stop ≤ self.now.left }
+        ensures takes { IfSome result (λ q. TakesNow prepared.now.program (view_of self.now) space.now (tree_at prepared.now.program.nodes.items place) q.steps q.value) }
+        ensures plain { IfSome result (λ _. is_splat (tree_at prepared.now.program.nodes.items place) ≡ false) }
+        ensures some { IfSome result (λ q. 0 < q.steps) }
+        ensures few { IfSome result (λ q. q.steps ≤ 31) }
+        ensures enough { IfSome result (λ q. stop + q.steps < self.now.left) }
+        ensures within { (clusters : Option Below) → AreReached (reach (length space.now.slots) clusters) (view_of self.now) → IfSome result (λ q. IsReached (reach (length space.now.slots) clusters) q.value) }
+    {
+        if self.left - stop <= 31 {
+            return None;
+        }
+        match self.quick(prepared, space, place) {
+            Some(found) => Some(found),
+            None => None,
+        }
+    }
+
     /// The value of such a part, where the steps do not stop before the one that follows it.
     #[inline(always)]
     pub fn quick_before(
@@ -176,10 +202,7 @@ impl Engine {
         ensures enough { IfSome result (λ q. stop + q.steps < self.now.left) }
         ensures within { (clusters : Option Below) → AreReached (reach (length space.now.slots) clusters) (view_of self.now) → IfSome result (λ q. IsReached (reach (length space.now.slots) clusters) q.value) }
     {
-        if self.left - stop <= 31 {
-            return None;
-        }
-        match self.quick(prepared, space, place) {
+        match self.quick_soon(prepared, space, place, stop) {
             Some(found) => Some(found),
             None => None,
         }

@@ -124,12 +124,12 @@ impl Engine {
         name: Sym,
         first: NodeId,
         count: u32,
-        definition: Definition,
+        definition: &Definition,
         stop: u64,
     ) -> bool
         requires control { self.old.control ≡ Control.Enter here }
         requires script { rule (context_of prepared.now.program) (tree_at prepared.now.program.nodes.items here) ≡ See (λ m. call_rule (context_of prepared.now.program) (own_method (context_of prepared.now.program) name.0 m) (printing (context_of prepared.now.program) name.0) (raises (context_of prepared.now.program) name.0) (awaited (context_of prepared.now.program) name.0) name (trees_before prepared.now.program.nodes.items (first + count) count)) }
-        requires method { (h : Course) → Some (callable_of prepared.now.program.nodes.items definition) ≡ own_method (context_of prepared.now.program) name.0 (state_of prepared.now.program (view_of self.old) space.now h).memory }
+        requires method { (h : Course) → Some (callable_of prepared.now.program.nodes.items definition.now) ≡ own_method (context_of prepared.now.program) name.0 (state_of prepared.now.program (view_of self.old) space.now h).memory }
         requires small { first + count < 2 ^ 32 }
         requires some { stop < self.old.left }
         requires room { length self.old.frames.items < vec_capacity self.old.frames }
@@ -154,7 +154,7 @@ impl Engine {
             self.enter_part(target, end, base, parts);
             return true;
         }
-        if self.begin_method(definition, Frame::Argument(target, end, 0, base), None) {
+        if self.begin_method(*definition, Frame::Argument(target, end, 0, base), None) {
             self.left = self.left - parts.steps - 1;
             self.enter_single(&prepared.program, stop);
             return true;
@@ -221,12 +221,12 @@ impl Engine {
         name: Sym,
         first: NodeId,
         count: u32,
-        definition: Definition,
+        definition: &Definition,
         stop: u64,
     ) -> bool
         requires control { self.old.control ≡ Control.Enter here }
         requires script { rule (context_of prepared.now.program) (tree_at prepared.now.program.nodes.items here) ≡ See (λ m. call_rule (context_of prepared.now.program) (own_method (context_of prepared.now.program) name.0 m) (printing (context_of prepared.now.program) name.0) (raises (context_of prepared.now.program) name.0) (awaited (context_of prepared.now.program) name.0) name (trees_before prepared.now.program.nodes.items (first + count) count)) }
-        requires method { (h : Course) → Some (callable_of prepared.now.program.nodes.items definition) ≡ own_method (context_of prepared.now.program) name.0 (state_of prepared.now.program (view_of self.old) space.now h).memory }
+        requires method { (h : Course) → Some (callable_of prepared.now.program.nodes.items definition.now) ≡ own_method (context_of prepared.now.program) name.0 (state_of prepared.now.program (view_of self.old) space.now h).memory }
         requires small { first + count < 2 ^ 32 }
         requires some { stop < self.old.left }
         requires room { length self.old.frames.items < vec_capacity self.old.frames }
@@ -242,7 +242,7 @@ impl Engine {
         if count == 1
             && let Some(found) = self.quick_before(prepared, space, first, stop)
         {
-            if self.call_one(prepared, space, here, name, first, definition, found, stop) {
+            if self.call_one(prepared, space, here, name, first, *definition, found, stop) {
                 self.enter_statements(prepared, stop);
                 return true;
             }
@@ -281,7 +281,7 @@ impl Engine {
         let receiver = self.itself();
         match prepared.method_looked_up(space, receiver, Callee::Name(name)) {
             Some(definition) => {
-                self.call_with(prepared, space, here, name, first, count, definition, stop)
+                self.call_with(prepared, space, here, name, first, count, &definition, stop)
             }
             None => false,
         }
@@ -314,10 +314,10 @@ impl Engine {
         ensures falls { power (view_of self.new) + self.old.left ≤ power (view_of self.old) + self.new.left }
     {
         match prepared.method_of_plain(space, self.itself(), name) {
-            Some(&Some(definition)) => {
+            Some(Some(definition)) => {
                 self.call_with(prepared, space, here, name, first, count, definition, stop)
             }
-            Some(&None) => false,
+            Some(None) => false,
             None => self.call_looked_up(prepared, space, here, name, first, count, stop),
         }
     }

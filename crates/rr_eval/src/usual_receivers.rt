@@ -131,7 +131,7 @@ impl Engine {
         space: &Space,
         here: NodeId,
         name: Sym,
-        definition: Definition,
+        definition: &Definition,
         found: Quick,
         first: NodeId,
         count: u32,
@@ -140,7 +140,7 @@ impl Engine {
         requires control { self.old.control ≡ Control.Enter here }
         requires comes { ComesTo prepared.now.program (view_of self.old) space.now (rule (context_of prepared.now.program) (tree_at prepared.now.program.nodes.items here)) found.steps (arguments (context_of prepared.now.program) (trees_before prepared.now.program.nodes.items (first + count) count) (found.value ∷ []) (finish (context_of prepared.now.program) (Aim.Call (Called.Name name)))) }
         requires joins { joined_by (context_of prepared.now.program) space.now (Called.Name name) found.value ≡ None }
-        requires method { Some (callable_of prepared.now.program.nodes.items definition) ≡ method_for (context_of prepared.now.program) space.now found.value (Called.Name name) }
+        requires method { Some (callable_of prepared.now.program.nodes.items definition.now) ≡ method_for (context_of prepared.now.program) space.now found.value (Called.Name name) }
         requires small { first + count < 2 ^ 32 }
         requires enough { stop + found.steps < self.old.left }
         requires value { (clusters : Option Below) → AreReached (reach (length space.now.slots) clusters) (view_of self.old) → IsReached (reach (length space.now.slots) clusters) found.value }
@@ -171,7 +171,7 @@ impl Engine {
         }
         let frame = Frame::Argument(target, end, 0, base);
         let passing = Passing::BehindReceiver;
-        if self.begin_sent(space, definition, found.value, passing, frame, None) {
+        if self.begin_sent(space, *definition, found.value, passing, frame, None) {
             self.left = self.left - steps - 1;
             self.enter_single(&prepared.program, stop);
             return true;
@@ -188,7 +188,7 @@ impl Engine {
         space: &Space,
         here: NodeId,
         name: Sym,
-        definition: Definition,
+        definition: &Definition,
         found: Quick,
         first: NodeId,
         count: u32,
@@ -197,7 +197,7 @@ impl Engine {
         requires control { self.old.control ≡ Control.Enter here }
         requires comes { ComesTo prepared.now.program (view_of self.old) space.now (rule (context_of prepared.now.program) (tree_at prepared.now.program.nodes.items here)) found.steps (arguments (context_of prepared.now.program) (trees_before prepared.now.program.nodes.items (first + count) count) (found.value ∷ []) (finish (context_of prepared.now.program) (Aim.Call (Called.Name name)))) }
         requires joins { joined_by (context_of prepared.now.program) space.now (Called.Name name) found.value ≡ None }
-        requires method { Some (callable_of prepared.now.program.nodes.items definition) ≡ method_for (context_of prepared.now.program) space.now found.value (Called.Name name) }
+        requires method { Some (callable_of prepared.now.program.nodes.items definition.now) ≡ method_for (context_of prepared.now.program) space.now found.value (Called.Name name) }
         requires few { found.steps ≤ 31 }
         requires small { first + count < 2 ^ 32 }
         requires enough { stop + found.steps < self.old.left }
@@ -213,14 +213,22 @@ impl Engine {
         ensures falls { power (view_of self.new) + self.old.left ≤ power (view_of self.old) + self.new.left }
     {
         if count == 0 {
-            return self.send_bare(prepared, space, here, name, definition, found, stop);
+            return self.send_bare(prepared, space, here, name, *definition, found, stop);
         }
         let before = self.steps_together(stop, found.steps);
         if count == 1
             && let Some(argument) = self.quick_before(prepared, space, first, before)
         {
             return self.send_one(
-                prepared, space, here, name, definition, found, first, argument, stop,
+                prepared,
+                space,
+                here,
+                name,
+                *definition,
+                found,
+                first,
+                argument,
+                stop,
             );
         }
         self.send_all(
@@ -265,7 +273,15 @@ impl Engine {
         }
         match prepared.method_looked_up(space, found.value, callee) {
             Some(definition) => self.send_with(
-                prepared, space, here, name, definition, found, first, count, stop,
+                prepared,
+                space,
+                here,
+                name,
+                &definition,
+                found,
+                first,
+                count,
+                stop,
             ),
             None => false,
         }
@@ -302,10 +318,10 @@ impl Engine {
         ensures falls { power (view_of self.new) + self.old.left ≤ power (view_of self.old) + self.new.left }
     {
         match prepared.method_of_plain(space, found.value, name) {
-            Some(&Some(definition)) => self.send_with(
+            Some(Some(definition)) => self.send_with(
                 prepared, space, here, name, definition, found, first, count, stop,
             ),
-            Some(&None) => false,
+            Some(None) => false,
             None => { self.send_looked_up(prepared, space, here, name, found, first, count, stop) }
         }
     }

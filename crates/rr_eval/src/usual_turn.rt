@@ -463,10 +463,10 @@ impl Engine {
         ensures falls { power (view_of self.new) + self.old.left ≤ power (view_of self.old) + self.new.left }
         ensures drops { IsTrue result → power (view_of self.new) < power (view_of self.old) }
     {
+        if let Control::Give(Answer::Gave(value)) = self.control {
+            return self.resume_often(prepared, space, value, stop);
+        }
         match self.control {
-            Control::Give(Answer::Gave(value)) => {
-                self.resume_often(prepared, space, value, stop)
-            }
             Control::Give(Answer::Returned(value)) => self.pass_often(value),
             Control::Enter(here) => {
                 self.left > stop

@@ -151,7 +151,11 @@ impl Engine {
     {
         let frame = Frame::Branch(yes, no);
         if let Some(value) = self.first_value(prepared, space, here, frame, condition, stop) {
-            self.go_into(prepared, chosen(yes, no, value), stop);
+            if is_truthy(value) {
+                self.control.enter(yes);
+            } else {
+                self.go_into(prepared, no, stop);
+            }
         }
     }
 
@@ -294,7 +298,7 @@ impl Engine {
         ensures spends { self.new.left < self.old.left }
         ensures falls { power (view_of self.new) + self.old.left ≤ power (view_of self.old) + self.new.left }
     {
-        self.begin(first + count, count);
+        self.begin_list(first, count);
         self.left -= 1;
     }
 

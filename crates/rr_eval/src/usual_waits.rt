@@ -101,23 +101,8 @@ impl Engine {
         self.enter_single(program, stop);
     }
 
-    /// Passes a `return` on at once, where one comes next.
-    #[inline(always)]
-    fn pass_on(&mut self)
-        requires nested { IsNested (view_of self.old) }
-        ensures goes { (p : Program) (t : Table) (h : Course) → remaining p (view_of self.old) t h ≡ remaining p (view_of self.new) t h }
-        ensures nested { IsNested (view_of self.new) }
-        ensures within { (k : Reach) → AreReached k (view_of self.old) → AreReached k (view_of self.new) }
-        ensures left { self.new.left ≡ self.old.left }
-        ensures less { size (view_of self.new) ≤ size (view_of self.old) }
-    {
-        if let Control::Give(Answer::Returned(value)) = self.control {
-            self.pass_often(value);
-        }
-    }
-
     /// Evaluates a `return`.
-    #[inline(always)]
+    #[inline(never)]
     pub fn visit_return(
         &mut self,
         prepared: &Prepared,
@@ -140,7 +125,6 @@ impl Engine {
     {
         if let Some(found) = self.first_value(prepared, space, here, Frame::Return, value, stop) {
             self.leave_method(found);
-            self.pass_on();
         }
     }
 

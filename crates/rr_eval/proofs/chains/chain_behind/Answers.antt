@@ -1,5 +1,5 @@
 -- One link more stands behind the others.
-use Rattle.std.proofs.Common.{◌≡◌, ◌+◌, ◌∷◌, ◌++◌, [], ap, sym, subst, arith, length}
+use Rattle.std.proofs.Common.{◌≡◌, ◌+◌, sym, subst, arith, length}
 use Rattle.rr_tree.specs.Tree.{binary, tree_at}
 use Rattle.rr_eval.specs.declared.chains.Link.{Link}
 use Rattle.rr_eval.specs.SimpleParts.{AreSimple, IsChain}

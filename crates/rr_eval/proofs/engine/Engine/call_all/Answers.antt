@@ -21,7 +21,7 @@ returns-then-parts-gt0-clause-goes c = λ _ h.
     let base = c.len-base.result in
     let at : base ≡ length m.held = omega arith in
     let enough = c.hold_parts-parts.ensures.enough in
-    own_waits p m n t c.args.here base parts.steps (c.args.first + c.args.count) parts.rest c.args.name (callable_of ns c.args.definition) (trees_before ns (c.args.first + c.args.count) c.args.count) h c.requires.control c.requires.script c.requires.method at c.hold_parts-parts.ensures.holds c.hold_parts-parts.ensures.takes (omega (arith, enough))
+    own_waits p m n t c.args.here base parts.steps (c.args.first + c.args.count) parts.rest c.args.name (callable_of ns c.args.definition.now) (trees_before ns (c.args.first + c.args.count) c.args.count) h c.requires.control c.requires.script c.requires.method at c.hold_parts-parts.ensures.holds c.hold_parts-parts.ensures.takes (omega (arith, enough))
     ∙ c.enter_part.ensures.goes p t h
 
 pub enter_part-requires-clause-nested : goal.enter_part-requires-clause-nested
@@ -43,7 +43,7 @@ returns-then-begin_method-clause-goes c = λ _ h.
     let spent : c.begin_method.new.self.left - (parts.steps + 1) ≡ c.begin_method.new.self.left - parts.steps - 1 = omega arith in
     let none : parts.rest ≡ 0 = omega (arith, c.if-parts-gt0.false) in
     let enough = c.hold_parts-parts.ensures.enough in
-    own_held p m n t c.args.here base parts.steps (c.args.first + c.args.count) parts.rest c.args.name (callable_of ns c.args.definition) (trees_before ns (c.args.first + c.args.count) c.args.count) h c.requires.control c.requires.script c.requires.method at c.hold_parts-parts.ensures.holds c.hold_parts-parts.ensures.takes none (omega (arith, enough))
+    own_held p m n t c.args.here base parts.steps (c.args.first + c.args.count) parts.rest c.args.name (callable_of ns c.args.definition.now) (trees_before ns (c.args.first + c.args.count) c.args.count) h c.requires.control c.requires.script c.requires.method at c.hold_parts-parts.ensures.holds c.hold_parts-parts.ensures.takes none (omega (arith, enough))
     ∙ c.begin_method.ensures.goes c.if-begin_method.true p c.args.name t h (n.left - (parts.steps + 1))
     ∙ ap (λ i. remaining_with p (view_of c.begin_method.new.self) t h (i - (parts.steps + 1))) (sym c.begin_method.ensures.left)
     ∙ ap (λ i. remaining_with p (view_of c.begin_method.new.self) t h i) spent

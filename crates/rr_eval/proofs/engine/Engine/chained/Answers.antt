@@ -1,5 +1,5 @@
 -- Each link goes on from what those before it give.
-use Rattle.std.proofs.Common.{◌≡◌, ◌+◌, ◌*◌, ◌-◌, ◌∙◌, ◌∷◌, ap, sym, subst, arith, length, take, drop, get_or, false}
+use Rattle.std.proofs.Common.{◌≡◌, ◌∙◌, ap, sym, subst, arith, length, get_or, false}
 use Rattle.rr_parser.specs.Grammar.Names.{is_splat}
 use Rattle.rr_tree.specs.Tree.{binary, tree_at}
 use Rattle.rr_tree.specs.declared.node.BinaryOperator.TheVariants.{Add}

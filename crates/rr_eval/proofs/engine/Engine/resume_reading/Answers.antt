@@ -1,5 +1,5 @@
 -- No value stands for the frame, and the call is done with what it reads.
-use Rattle.std.proofs.Common.{◌≡◌, ◌≤◌, ◌∙◌, ap, sym, subst, arith, length, reverse}
+use Rattle.std.proofs.Common.{◌≤◌, ◌∙◌, ap, sym, subst, arith, length, reverse}
 use Rattle.std.proofs.lemmas.List.{take_all}
 use Rattle.rr_eval.specs.declared.call.Callee.TheVariants.{Name}
 use Rattle.rr_eval.specs.declared.call.Target.TheVariants.{Call}

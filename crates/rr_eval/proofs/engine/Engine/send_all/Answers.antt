@@ -57,7 +57,7 @@ returns-then-begin_sent-clause-goes c = λ _ h.
     let steps = c.steps_together-steps.ensures in
     let all = found.steps + parts.steps in
     let spent : c.begin_sent.new.self.left - (all + 1) ≡ c.begin_sent.new.self.left - c.steps_together-steps.result - 1 = omega (arith, steps) in
-    sent_held p m n t c.args.here base found.steps parts.steps end parts.rest found.value c.args.name (callable_of ns c.args.definition) (trees_before ns end c.args.count) h c.requires.control c.requires.comes c.hold_receiver-parts.ensures.comes at c.hold_receiver-parts.ensures.holds c.hold_receiver-parts.ensures.first c.requires.joins c.requires.method none (omega (arith, enough, before))
+    sent_held p m n t c.args.here base found.steps parts.steps end parts.rest found.value c.args.name (callable_of ns c.args.definition.now) (trees_before ns end c.args.count) h c.requires.control c.requires.comes c.hold_receiver-parts.ensures.comes at c.hold_receiver-parts.ensures.holds c.hold_receiver-parts.ensures.first c.requires.joins c.requires.method none (omega (arith, enough, before))
     ∙ c.begin_sent.ensures.goes c.if-begin_sent.true p c.args.name h (n.left - (all + 1))
     ∙ ap (λ i. remaining_with p (view_of c.begin_sent.new.self) t h (i - (all + 1))) (sym c.begin_sent.ensures.left)
     ∙ ap (λ i. remaining_with p (view_of c.begin_sent.new.self) t h i) spent

@@ -1,9 +1,8 @@
 -- The variable gets the value.
-use Rattle.std.proofs.Common.{◌+◌, ◌-◌, ◌∙◌, ap, arith, sym, length}
+use Rattle.std.proofs.Common.{◌∙◌, ap, arith, length}
 use Rattle.rr_tree.specs.Tree.{binary, tree_at}
 use Rattle.rr_eval.specs.declared.frame.Frame.TheVariants.{Store}
 use Rattle.rr_eval.specs.Frames.{first_tree}
-use Rattle.rr_eval.specs.Turns.{remaining_with}
 use Rattle.rr_eval.specs.Views.{view_of}
 use Rattle.rr_eval.specs.Within.{reach}
 use Rattle.rr_eval.proofs.Holding.{with_left}

@@ -14,8 +14,8 @@ returns-clause-goes c = λ t h.
     let m = view_of c.args.self.now in
     let some : m.left ≡ suc (m.left - 1) = omega arith in
     entered p m t c.args.here (m.left - 1) (Sequence c.args.first c.args.count) _ c.requires.control some c.requires.tree (sequence_rule p.nodes.items (context_of p) c.args.first c.args.count) h
-    ∙ c.begin.ensures.goes p t h (m.left - 1)
-    ∙ ap (λ n. remaining_with p (view_of c.begin.new.self) t h (n - 1)) (sym c.begin.ensures.left)
+    ∙ c.begin_list.ensures.goes p t h (m.left - 1)
+    ∙ ap (λ n. remaining_with p (view_of c.begin_list.new.self) t h (n - 1)) (sym c.begin_list.ensures.left)
 
 pub returns-clause-within : goal.returns-clause-within
-returns-clause-within c k h = with_left k (view_of c.begin.new.self) _ (c.begin.ensures.within k h)
+returns-clause-within c k h = with_left k (view_of c.begin_list.new.self) _ (c.begin_list.ensures.within k h)
