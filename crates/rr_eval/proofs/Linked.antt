@@ -6,9 +6,11 @@ use Rattle.rr_tree.specs.Tree.{Tree, binary, tree_at}
 use Rattle.rr_tree.specs.declared.program.Program.{Program}
 use Rattle.rr_eval.specs.declared.chains.Chain.{Chain}
 use Rattle.rr_eval.specs.declared.chains.Link.{Link}
+use Rattle.rr_eval.specs.declared.simple_parts.ApartPart.{ApartPart}
+use Rattle.rr_eval.specs.declared.simple_parts.ApartPart.TheVariants as apart
 use Rattle.rr_eval.specs.declared.simple_parts.SimplePart.{SimplePart}
 use Rattle.rr_eval.specs.declared.simple_parts.SimplePart.TheVariants.{Variable, Int, WithInt, WithVariable, Value, Itself, Apart, Other}
-use Rattle.rr_eval.specs.SimpleParts.{AreSimple, IsSimple, IsChain, IsLinked, linked, links_of}
+use Rattle.rr_eval.specs.SimpleParts.{AreSimple, IsApart, IsSimple, IsChain, IsLinked, linked, links_of}
 
 -- the first of some links, and the others
 pub front : (links : List Link) (none : Link) → 1 ≤ length links → links ≡ get_or links 0 none ∷ take (length links - 1) (drop 1 links)
@@ -34,14 +36,20 @@ links_wider links l chain there =
     ap (take chain.count) (drop-append-le chain.from links (l ∷ []) from) ∙ take-append-le chain.count (drop chain.from links) (l ∷ []) count
 
 chain_wider : (p : Program) (links : List Link) (l : Link) (chain : Chain) (tree : Tree) → IsChain p links chain tree → IsChain p (links ++ l ∷ []) chain tree
-chain_wider p links l chain tree is = λ some.
-    let old = is some in
-    let there = old.0 in
+chain_wider p links l chain tree is =
+    let there = is.1.0 in
     let longer : length (links ++ l ∷ []) ≡ length links + 1 = length-append links (l ∷ []) in
-    (omega (arith, there, longer), ap (linked p (tree_at p.nodes.items chain.first)) (links_wider links l chain there) ∙ old.1)
+    (is.0, (omega (arith, there, longer), ap (linked p (tree_at p.nodes.items chain.first)) (links_wider links l chain there) ∙ is.1.1))
+
+apart_wider : (p : Program) (links : List Link) (l : Link) (tree : Tree) (a : ApartPart) → IsApart p links tree a → IsApart p (links ++ l ∷ []) tree a
+apart_wider p links l tree (apart.Chain chain) is = chain_wider p links l chain tree is
+apart_wider p links l tree (apart.Field x) is = is
+apart_wider p links l tree (apart.Attribute v x) is = is
+apart_wider p links l tree (apart.Global x) is = is
+apart_wider p links l tree (apart.Constant x class) is = is
 
 simple_wider : (p : Program) (links : List Link) (l : Link) (tree : Tree) (s : SimplePart) → IsSimple p links tree s → IsSimple p (links ++ l ∷ []) tree s
-simple_wider p links l tree (Apart chain) is = chain_wider p links l chain tree is
+simple_wider p links l tree (Apart a) is = apart_wider p links l tree a is
 simple_wider p links l tree (Value v) is = is
 simple_wider p links l tree Itself is = is
 simple_wider p links l tree (Variable v) is = is
@@ -55,8 +63,8 @@ pub parts_wider : (p : Program) (links : List Link) (l : Link) (parts : List Sim
 parts_wider p links l parts are = λ x s e. simple_wider p links l (tree_at p.nodes.items x) s (are x s e)
 
 -- the links of a chain that ends with the last of all, and one more
-links_longer : (links : List Link) (l : Link) (first from count : ℕ) → from + count ≡ length links → take (count + 1) (drop from (links ++ l ∷ [])) ≡ take count (drop from links) ++ l ∷ []
-links_longer links l first from count ends =
+links_longer : (links : List Link) (l : Link) (from count : ℕ) → from + count ≡ length links → take (count + 1) (drop from (links ++ l ∷ [])) ≡ take count (drop from links) ++ l ∷ []
+links_longer links l from count ends =
     let start : from ≤ length links = omega (arith, ends) in
     let long : length (drop from links) ≡ length links - from = length-drop from links in
     let count_is : count ≡ length (drop from links) = omega (arith, ends, long) in
@@ -66,7 +74,7 @@ links_longer links l first from count ends =
 
 -- a chain and an operator behind it
 pub chain_longer : (p : Program) (links : List Link) (chain : Chain) (l : Link) (tree : Tree) → IsLinked p links chain tree → chain.from + chain.count ≡ length links → IsChain p (links ++ l ∷ []) (record chain { count = chain.count + 1 }) (binary l.op tree (tree_at p.nodes.items l.right))
-chain_longer p links chain l tree is ends = λ some.
+chain_longer p links chain l tree is ends =
     let longer : length (links ++ l ∷ []) ≡ length links + 1 = length-append links (l ∷ []) in
     let first = tree_at p.nodes.items chain.first in
-    (omega (arith, ends, longer), ap (linked p first) (links_longer links l chain.first chain.from chain.count ends) ∙ linked_more p first (links_of links chain) l ∙ ap (λ t. binary l.op t (tree_at p.nodes.items l.right)) is.1)
+    (omega arith, (omega (arith, ends, longer), ap (linked p first) (links_longer links l chain.from chain.count ends) ∙ linked_more p first (links_of links chain) l ∙ ap (λ t. binary l.op t (tree_at p.nodes.items l.right)) is.1))

@@ -1,5 +1,5 @@
 -- Parts that read what an object holds.
-use Rattle.std.proofs.Common.{◌≡◌, ℕ, suc, ◌+◌, ap, ◌∙◌, sym, arith, refl, [], ◌∷◌, Option, Some, None, Bool, true, false, if◌then◌else◌, slice_index_or}
+use Rattle.std.proofs.Common.{◌≡◌, ℕ, suc, ◌+◌, ap, ◌∙◌, sym, arith, refl, subst, [], ◌∷◌, Option, Some, None, Bool, true, false, if◌then◌else◌, slice_index_or}
 use Rattle.rr_base.specs.ClassNames.{class_named}
 use Rattle.rr_base.specs.Classes.{class_id}
 use Rattle.rr_base.specs.declared.class.BuiltInClass.{BuiltInClass}
@@ -7,7 +7,8 @@ use Rattle.rr_base.specs.declared.name.Sym.{Sym}
 use Rattle.rr_space.specs.Tables.{Table}
 use Rattle.rr_space.specs.declared.refer.Ref.{Ref}
 use Rattle.rr_space.specs.declared.refer.Ref.TheVariants.{Class}
-use Rattle.rr_tree.specs.Tree.{Tree, constant, field, global, send, empty}
+use Rattle.rr_parser.specs.Grammar.Names.{is_splat}
+use Rattle.rr_tree.specs.Tree.{Tree, constant, field, global, send, splat, empty}
 use Rattle.rr_tree.specs.declared.node.Path.TheVariants.{Plain}
 use Rattle.rr_tree.specs.declared.program.Program.{Program}
 use Rattle.rr_builtin.specs.Fields.{field_at}
@@ -23,6 +24,11 @@ use Rattle.rr_eval.specs.declared.problem.Response.{Response}
 use Rattle.rr_eval.specs.declared.problem.Response.TheVariants.{Gives}
 use Rattle.rr_eval.specs.Blocks.{running}
 use Rattle.rr_eval.specs.Constants.{asked_constant, constant_rule, own_class, plain_constant, set_response, unless_set}
+use Rattle.rr_eval.specs.declared.call_stack.Variable.{Variable as Local}
+use Rattle.rr_eval.specs.declared.simple_parts.SimplePart.{SimplePart}
+use Rattle.rr_eval.specs.declared.simple_parts.SimplePart.TheVariants.{Variable}
+use Rattle.rr_eval.specs.SimpleParts.{attribute_in, named_operand, operand_of}
+use Rattle.rr_eval.specs.Variables.{read_variable}
 use Rattle.rr_eval.specs.Context.{Context}
 use Rattle.rr_eval.specs.Dispatch.{dispatched, method_for, run_work, way_of, valued_response}
 use Rattle.rr_eval.specs.Fields.{field_response}
@@ -39,6 +45,7 @@ use Rattle.rr_eval.specs.View.{View}
 use Rattle.rr_eval.proofs.Depth.{meaning_rule}
 use Rattle.rr_eval.proofs.Quickly.{answers}
 use Rattle.rr_eval.proofs.QuickParts.{part_comes}
+use Rattle.rr_eval.proofs.Simply.{operand_takes}
 
 -- what is not set is what follows, in the main ractor as in another one
 class_given : (own : Context) (c : Code) (s : State) (a : Answer) (n : ℕ) (b : Bool) (o : Option Response) → (b ≡ true → None ≡ o) → runs_in c (if b then unless_set own o (Ret a) else Ret a) s n ≡ Ended a s n
@@ -108,3 +115,21 @@ attribute_takes p m t a x i v w takes gives = λ h n.
     ∙ meaning_rule c.context c.world (send a x.0 empty) s (i + n)
     ∙ part_comes p m t a i v (on_value (λ u. arguments own [] (u ∷ []) (finish own (Call (Name x))))) takes h n
     ∙ gives m h n
+
+-- a call without arguments of what a variable holds takes two steps
+named_takes : (p : Program) (m : View) (t : Table) (a : Tree) (s : SimplePart) (x : ℕ) (v : Local) (y : Sym) (w : Ref) → operand_of a ≡ s → named_operand s x ≡ Some (v, y.0)
+    → GivesAtOnce p t (finish (context_of p) (Call (Name y)) (read_variable v m.calls.frames ∷ [])) w → TakesNow p m t (send a x empty) 2 w
+named_takes p m t a (Variable u) x v y w is e gives =
+    let same : Path (Local × ℕ) (u, x) (v, y.0) = cc e in
+    let here = subst (λ z. operand_of a ≡ Variable z) (ap (λ (q : Local × ℕ). q.0) same) is in
+    subst (λ n. TakesNow p m t (send a n empty) 2 w) (sym (ap (λ (q : Local × ℕ). q.1) same)) (attribute_takes p m t a y 1 (read_variable v m.calls.frames) w (operand_takes p m t a v here) gives)
+named_takes p m t a _ x v y w is e gives = absurd (cc e)
+
+pub attribute_read : (p : Program) (m : View) (t : Table) (tree : Tree) (v : Local) (y : Sym) (w : Ref) → attribute_in tree ≡ Some (v, y.0)
+    → GivesAtOnce p t (finish (context_of p) (Call (Name y)) (read_variable v m.calls.frames ∷ [])) w → TakesNow p m t tree 2 w
+attribute_read p m t (send a x empty) v y w e gives = named_takes p m t a (operand_of a) x v y w refl e gives
+attribute_read p m t _ v y w e gives = absurd (cc e)
+
+pub attribute_plain : (tree : Tree) (v : Local) (x : ℕ) → attribute_in tree ≡ Some (v, x) → is_splat tree ≡ false
+attribute_plain (splat a) v x e = absurd (cc e)
+attribute_plain _ v x e = refl

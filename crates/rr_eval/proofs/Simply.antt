@@ -11,8 +11,8 @@ use Rattle.rr_tree.specs.declared.node.BinaryOperator.{BinaryOperator}
 use Rattle.rr_tree.specs.declared.program.Program.{Program}
 use Rattle.rr_eval.specs.declared.call_stack.Variable.{Variable as Named}
 use Rattle.rr_eval.specs.declared.problem.Answer.TheVariants.{Gave}
-use Rattle.rr_eval.specs.declared.chains.Chain.{Chain}
 use Rattle.rr_eval.specs.declared.chains.Link.{Link}
+use Rattle.rr_eval.specs.declared.simple_parts.ApartPart.{ApartPart}
 use Rattle.rr_eval.specs.declared.simple_parts.SimplePart.{SimplePart}
 use Rattle.rr_eval.specs.declared.simple_parts.SimplePart.TheVariants.{Variable, Int, WithInt, WithVariable, Value, Itself, Apart, Other}
 use Rattle.rr_frames.specs.Frames.{Frame as Activated}
@@ -98,6 +98,10 @@ variable_takes p m t (local depth slot x behind) v e = leaf_takes p m t (local d
 variable_takes p m t (binary o a b) v e = absurd (operation_leaf o (operand_of a) (operand_of b) v (sym e))
 variable_takes p m t _ v e = absurd (cc e)
 
+-- an operand that is a variable
+pub operand_takes : (p : Program) (m : View) (t : Table) (a : Tree) (v : Named) → operand_of a ≡ Variable v → TakesNow p m t a 1 (read_variable v m.calls.frames)
+operand_takes p m t a v e = leaf_takes p m t a (read_variable v m.calls.frames) (variable_leaf a v m.calls.frames e)
+
 -- a part that is an integer
 pub int_takes : (p : Program) (m : View) (t : Table) (tree : Tree) (z : ℤ) → Int z ≡ simple_of tree → TakesNow p m t tree 1 (IntRef z)
 int_takes p m t (int y) z e = leaf_takes p m t (int y) (IntRef z) (int_leaf (int y) z m.calls.frames (sym e))
@@ -154,11 +158,11 @@ operation_itself o (Variable w) (Variable y) e = cc e
 operation_itself o (Variable w) _ e = cc e
 operation_itself o _ _ e = cc e
 
-operation_apart : (o : BinaryOperator) (s t : SimplePart) (chain : Chain) → operation_of o s t ≡ Apart chain → ⊥
-operation_apart o (Variable w) (Int y) chain e = cc e
-operation_apart o (Variable w) (Variable y) chain e = cc e
-operation_apart o (Variable w) _ chain e = cc e
-operation_apart o _ _ chain e = cc e
+operation_apart : (o : BinaryOperator) (s t : SimplePart) (a : ApartPart) → operation_of o s t ≡ Apart a → ⊥
+operation_apart o (Variable w) (Int y) a e = cc e
+operation_apart o (Variable w) (Variable y) a e = cc e
+operation_apart o (Variable w) _ a e = cc e
+operation_apart o _ _ a e = cc e
 
 no_value : (tree : Tree) (v : Ref) → simple_of tree ≡ Value v → ⊥
 no_value (binary o a b) v e = operation_value o (operand_of a) (operand_of b) v e
@@ -172,16 +176,16 @@ no_itself (int z) e = cc e
 no_itself (local depth slot x behind) e = cc e
 no_itself _ e = cc e
 
-no_apart : (tree : Tree) (chain : Chain) → simple_of tree ≡ Apart chain → ⊥
-no_apart (binary o a b) chain e = operation_apart o (operand_of a) (operand_of b) chain e
-no_apart (int z) chain e = cc e
-no_apart (local depth slot x behind) chain e = cc e
-no_apart _ chain e = cc e
+no_apart : (tree : Tree) (a : ApartPart) → simple_of tree ≡ Apart a → ⊥
+no_apart (binary o a b) x e = operation_apart o (operand_of a) (operand_of b) x e
+no_apart (int z) x e = cc e
+no_apart (local depth slot x behind) y e = cc e
+no_apart _ x e = cc e
 
 pub simple_is : (p : Program) (links : List Link) (tree : Tree) (s : SimplePart) → s ≡ simple_of tree → IsSimple p links tree s
 simple_is p links tree (Value v) e = absurd (no_value tree v (sym e))
 simple_is p links tree Itself e = absurd (no_itself tree (sym e))
-simple_is p links tree (Apart chain) e = absurd (no_apart tree chain (sym e))
+simple_is p links tree (Apart a) e = absurd (no_apart tree a (sym e))
 simple_is p links tree (Variable v) e = e
 simple_is p links tree (Int z) e = e
 simple_is p links tree (WithInt op v z) e = e

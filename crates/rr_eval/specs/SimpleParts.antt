@@ -1,8 +1,9 @@
 -- Parts that are evaluated without a frame, by what stands in the program.
-use Rattle.std.specs.Prelude.{◌≡◌, ◌+◌, ◌<◌, ◌≤◌, ℕ, List, [], ◌∷◌, length, take, drop, Option, None, Some, slice_get}
+use Rattle.std.specs.Prelude.{◌≡◌, ◌+◌, ◌<◌, ◌≤◌, ℕ, List, [], ◌∷◌, length, take, drop, Option, None, Some, slice_get, slice_index_or}
 use Rattle.std.specs.Option.{option_map}
 use Rattle.std.proofs.Props.{props}
-use Rattle.rr_tree.specs.Tree.{Tree, nil, truth, int, symbol, itself, class_named, constant, local, binary, tree_at}
+use Rattle.rr_base.specs.ClassNames.{class_named as built_in_named}
+use Rattle.rr_tree.specs.Tree.{Tree, nil, truth, int, symbol, itself, class_named, constant, local, field, global, send, empty, binary, tree_at}
 use Rattle.rr_tree.specs.declared.node.BinaryOperator.{BinaryOperator}
 use Rattle.rr_tree.specs.declared.node.Path.TheVariants.{Plain}
 use Rattle.rr_tree.specs.declared.program.Program.{Program}
@@ -11,8 +12,12 @@ use Rattle.rr_space.specs.Parts.{truth_ref}
 use Rattle.rr_space.specs.declared.refer.Ref.{Ref}
 use Rattle.rr_space.specs.declared.refer.Ref.TheVariants.{Nil, Symbol, Class}
 use Rattle.rr_eval.specs.Constants.{own_class}
+use Rattle.rr_eval.specs.Turns.{context_of}
 use Rattle.rr_eval.specs.declared.chains.Chain.{Chain}
 use Rattle.rr_eval.specs.declared.chains.Link.{Link}
+use Rattle.rr_eval.specs.declared.call_stack.Variable.{Variable as Local}
+use Rattle.rr_eval.specs.declared.simple_parts.ApartPart.{ApartPart}
+use Rattle.rr_eval.specs.declared.simple_parts.ApartPart.TheVariants as apart
 use Rattle.rr_eval.specs.declared.simple_parts.SimplePart.{SimplePart}
 use Rattle.rr_eval.specs.declared.simple_parts.SimplePart.TheVariants.{Variable, Int, WithInt, WithVariable, Value, Itself, Apart, Other}
 
@@ -57,19 +62,44 @@ links_of links chain = take chain.count (drop chain.from links)
 abbrev pub IsLinked : Program → List Link → Chain → Tree → Type 0
 IsLinked p links chain tree = (chain.from + chain.count ≤ length links) × (linked p (tree_at p.nodes.items chain.first) (links_of links chain) ≡ tree)
 
--- a chain that has links does so; of one without nothing is said
+-- a chain has links, and does so
 abbrev pub IsChain : Program → List Link → Chain → Tree → Type 0
-IsChain p links chain tree = 0 < chain.count → IsLinked p links chain tree
+IsChain p links chain tree = (0 < chain.count) × IsLinked p links chain tree
+
+-- the variable, and the name, of a call without arguments of what a variable holds
+abbrev pub named_operand : SimplePart → ℕ → Option (Local × ℕ)
+named_operand (Variable v) x = Some (v, x)
+named_operand _ x = None
+
+abbrev pub attribute_in : Tree → Option (Local × ℕ)
+attribute_in (send a x empty) = named_operand (operand_of a) x
+attribute_in _ = None
+
+-- a part for which a function of its own is called is what it is taken for: a chain, a variable, an attribute, or a constant that is no class
+-- of the program, beside the built-in class of its name
+abbrev pub IsApart : Program → List Link → Tree → ApartPart → Type 0
+IsApart p links tree (apart.Chain chain) = IsChain p links chain tree
+IsApart p links tree (apart.Field x) = tree ≡ field x.0
+IsApart p links tree (apart.Attribute v x) = attribute_in tree ≡ Some (v, x.0)
+IsApart p links tree (apart.Global x) = tree ≡ global x.0
+IsApart p links tree (apart.Constant x class) = (tree ≡ constant (Plain x)) × (own_class p x.0 ≡ None) × (class ≡ built_in_named (slice_index_or (context_of p).symbols x.0 []))
+
+pub IsApart-prop : (p : Program) (links : List Link) (tree : Tree) (a : ApartPart) → IsProp (IsApart p links tree a)
+IsApart-prop p links tree (apart.Chain chain) = Prim.hlevel (props, Tree-set)
+IsApart-prop p links tree (apart.Field x) = Prim.hlevel (props, Tree-set)
+IsApart-prop p links tree (apart.Attribute v x) = Prim.hlevel props
+IsApart-prop p links tree (apart.Global x) = Prim.hlevel (props, Tree-set)
+IsApart-prop p links tree (apart.Constant x class) = Prim.hlevel (props, Tree-set)
 
 -- what a part is taken for is what it is
 abbrev pub IsSimple : Program → List Link → Tree → SimplePart → Type 0
 IsSimple p links tree (Value v) = literal_of p tree ≡ Some v
 IsSimple p links tree Itself = tree ≡ itself
-IsSimple p links tree (Apart chain) = IsChain p links chain tree
+IsSimple p links tree (Apart a) = IsApart p links tree a
 IsSimple p links tree s = s ≡ simple_of tree
 
 pub IsSimple-prop : (p : Program) (links : List Link) (tree : Tree) (s : SimplePart) → IsProp (IsSimple p links tree s)
-IsSimple-prop p links tree (Apart chain) = Prim.hlevel (props, Tree-set)
+IsSimple-prop p links tree (Apart a) = IsApart-prop p links tree a
 IsSimple-prop p links tree (Value v) = Prim.hlevel props
 IsSimple-prop p links tree Itself = Prim.hlevel (props, Tree-set)
 IsSimple-prop p links tree (Variable v) = Prim.hlevel props

@@ -1,17 +1,19 @@
 //! Parts that read what an object holds: an instance variable of `self`, an attribute of an object that a variable holds, a global
 //! variable, or a constant. They are evaluated without a frame.
 
-ghost use Rattle.std.specs.Prelude.{◌≡◌, ◌<◌, ◌≤◌, [], ◌∷◌, false, true, length, Option, IfSome};
+ghost use Rattle.std.specs.Prelude.{◌≡◌, ◌<◌, ◌≤◌, List, [], ◌∷◌, false, true, length, Option, IfSome};
 ghost use Rattle.rr_builtin.specs.Fields.{field_at};
 ghost use Rattle.rr_parser.specs.Grammar.Names.{is_splat};
 ghost use Rattle.rr_space.specs.Tables.{Below};
-ghost use Rattle.rr_tree.specs.Tree.{empty, send, tree_at};
+ghost use Rattle.rr_tree.specs.Tree.{Tree};
 ghost use Rattle.rr_eval.specs.declared.call.Callee.{Callee};
 ghost use Rattle.rr_eval.specs.declared.call.Target.{Target};
+ghost use Rattle.rr_eval.specs.declared.chains.Link.{Link};
 ghost use Rattle.rr_eval.specs.Fields.{field_response};
 ghost use Rattle.rr_eval.specs.Globals.{globals};
 ghost use Rattle.rr_eval.specs.Owners.{is_main};
 ghost use Rattle.rr_eval.specs.Rules.{finish};
+ghost use Rattle.rr_eval.specs.SimpleParts.{IsApart};
 ghost use Rattle.rr_eval.specs.Turns.{context_of};
 ghost use Rattle.rr_eval.specs.Usual.{GivesAtOnce, TakesNow};
 ghost use Rattle.rr_eval.specs.Views.{view_of};
@@ -24,11 +26,10 @@ use crate::globals::GLOBALS;
 use crate::owners::is_main;
 use crate::prepared::{Prepared, Work};
 use crate::problem::Response;
-use crate::simple_parts::SimplePart;
+use crate::simple_parts::ApartPart;
 use crate::usual::Quick;
 use rr_base::Sym;
 use rr_space::{Ref, Space};
-use rr_tree::{Node, NodeId, Path};
 
 /// What an object holds as an instance variable, where that can be read.
 #[inline(always)]
@@ -43,7 +44,7 @@ fn field_of(space: &Space, object: Ref, name: Sym) -> Option<Ref>
 }
 
 /// What a global variable holds, where the main ractor reads it and that can be read.
-#[inline(always)]
+#[inline(never)]
 fn global_of(space: &Space, name: Sym) -> Option<Ref>
     ensures main { IfSome result (λ _. is_main space.now ≡ true) }
     ensures is { IfSome result (λ v. field_response space.now (field_at space.now globals name.0) ≡ Response.Gives v) }
@@ -74,65 +75,35 @@ pub fn attribute_of(prepared: &Prepared, space: &Space, receiver: Ref, name: Sym
 }
 
 impl Engine {
-    /// The value of a call without arguments that reads an attribute of an object that a variable holds.
-    #[inline(always)]
-    fn attribute(
-        &self,
-        prepared: &Prepared,
-        space: &Space,
-        receiver: NodeId,
-        name: Sym,
-    ) -> Option<Ref>
-        ensures takes { IfSome result (TakesNow prepared.now.program (view_of self.now) space.now (send (tree_at prepared.now.program.nodes.items receiver) name.0 empty) 2) }
-        ensures within { (clusters : Option Below) → IfSome result (IsReached (reach (length space.now.slots) clusters)) }
-    {
-        match prepared.part(receiver) {
-            Some(&SimplePart::Variable(variable)) => {
-                match attribute_of(prepared, space, self.variable(variable), name) {
-                    Some(value) => Some(value),
-                    None => None,
-                }
-            }
-            _ => None,
-        }
-    }
-
     /// What a part reads, and how many steps that takes.
     #[inline(always)]
-    pub fn read_part(&self, prepared: &Prepared, space: &Space, place: NodeId) -> Option<Quick>
-        ensures takes { IfSome result (λ q. TakesNow prepared.now.program (view_of self.now) space.now (tree_at prepared.now.program.nodes.items place) q.steps q.value) }
-        ensures plain { IfSome result (λ _. is_splat (tree_at prepared.now.program.nodes.items place) ≡ false) }
+    pub fn read_apart(&self, prepared: &Prepared, space: &Space, apart: ApartPart) -> Option<Quick>
+        ensures takes { (links : List Link) (tree : Tree) → IsApart prepared.now.program links tree apart → IfSome result (λ q. TakesNow prepared.now.program (view_of self.now) space.now tree q.steps q.value) }
+        ensures plain { (links : List Link) (tree : Tree) → IsApart prepared.now.program links tree apart → IfSome result (λ _. is_splat tree ≡ false) }
         ensures some { IfSome result (λ q. 0 < q.steps) }
         ensures few { IfSome result (λ q. q.steps ≤ 2) }
         ensures within { (clusters : Option Below) → AreReached (reach (length space.now.slots) clusters) (view_of self.now) → IfSome result (λ q. IsReached (reach (length space.now.slots) clusters) q.value) }
     {
-        match prepared.node(place) {
-            Some(&Node::Field(name)) => match field_of(space, self.itself(), name) {
+        match apart {
+            ApartPart::Field(name) => match field_of(space, self.itself(), name) {
                 Some(value) => Some(Quick { value, steps: 1 }),
                 None => None,
             },
-            Some(
-                &Node::Send {
-                    receiver,
-                    name,
-                    count: 0,
-                    ..
-                },
-            ) => match self.attribute(prepared, space, receiver, name) {
-                Some(value) => Some(Quick { value, steps: 2 }),
-                None => None,
-            },
-            Some(&Node::Global(name)) => match global_of(space, name) {
-                Some(value) => Some(Quick { value, steps: 1 }),
-                None => None,
-            },
-            Some(&Node::Constant(Path::Plain(name))) => {
-                match constant_of(&prepared.program, space, name) {
-                    Some(value) => Some(Quick { value, steps: 1 }),
+            ApartPart::Attribute(variable, name) => {
+                match attribute_of(prepared, space, self.variable(variable), name) {
+                    Some(value) => Some(Quick { value, steps: 2 }),
                     None => None,
                 }
             }
-            _ => None,
+            ApartPart::Global(name) => match global_of(space, name) {
+                Some(value) => Some(Quick { value, steps: 1 }),
+                None => None,
+            },
+            ApartPart::Constant(name, class) => match constant_of(space, name, class) {
+                Some(value) => Some(Quick { value, steps: 1 }),
+                None => None,
+            },
+            ApartPart::Chain(_) => None,
         }
     }
 }

@@ -1,13 +1,11 @@
 //! The frames of the program and of the methods and blocks that run, by numbers of 32 bits.
 
 ghost use Rattle.std.specs.Prelude.{false, ◌≡◌, ◌+◌, ◌-◌, ◌<◌, ◌∷◌, ◌++◌, [], nat_lt, length, IfOk, IfErr, IsTrue, IsFalse, OnOk, OnErr, if◌then◌else◌};
-ghost use Rattle.std.specs.List.{All};
 ghost use Rattle.rr_base.specs.declared.fault.Fault.{Fault};
 ghost use Rattle.rr_base.specs.declared.limits.LimitKind.{LimitKind};
 ghost use Rattle.rr_frames.specs.Frames.{frame_at, laid, left, list_of, no_frame, read_at};
-ghost use Rattle.rr_eval.specs.Blocks.{activation_in, given_in, running, is_outside};
+ghost use Rattle.rr_eval.specs.Blocks.{activation_in, running, is_outside};
 ghost use Rattle.rr_eval.specs.Variables.{top, outer, read_variable, write_variable};
-ghost use Rattle.rr_eval.specs.Within.{Reach, IsReached, AreVariablesReached};
 
 use rr_base::{ClassId, Fault, Sym};
 use rr_frames::{Activation, Frames, Given, Shape};

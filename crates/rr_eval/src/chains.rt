@@ -11,7 +11,7 @@ ghost use Rattle.rr_eval.specs.Within.{Reach, reach, IsReached, AreReached};
 
 use crate::engine::Engine;
 use crate::prepared::Prepared;
-use crate::simple_parts::SimplePart;
+use crate::simple_parts::{ApartPart, SimplePart};
 use crate::usual::{Quick, operated};
 use rr_space::Space;
 use rr_tree::{BinaryOperator, NodeId, Program};
@@ -32,22 +32,13 @@ pub struct Chain {
     pub count: u32,
 }
 
-impl Chain {
-    /// A chain without links.
-    pub const NONE: Chain = Chain {
-        first: 0,
-        from: 0,
-        count: 0,
-    };
-}
-
 /// The most links of a chain: what is done at once has few steps.
 const LONGEST: u32 = 7;
 
 /// Whether a part is taken for one that a link may have as its right operand: one that may be an integer.
 fn is_operand(parts: &Vec<SimplePart>, place: NodeId) -> bool {
     match parts.get(place as usize) {
-        Some(&SimplePart::Apart(chain)) => chain.count == 0,
+        Some(&SimplePart::Apart(ApartPart::Chain(_))) => false,
         Some(&SimplePart::Value(_)) | Some(&SimplePart::Other) | None => false,
         Some(_) => true,
     }
@@ -58,7 +49,7 @@ fn chain_at(program: &Program, parts: &Vec<SimplePart>, place: NodeId, from: u32
     ensures { (links : List Link) → AreSimple program.now links parts.now.items → from ≤ length links → IfSome result (λ chain. IsLinked program.now links chain (tree_at program.now.nodes.items place)) }
 {
     match parts.get(place as usize) {
-        Some(&SimplePart::Apart(chain)) if chain.count > 0 => Some(chain),
+        Some(&SimplePart::Apart(ApartPart::Chain(chain))) => Some(chain),
         Some(&SimplePart::Value(_)) | Some(&SimplePart::Other) | None => None,
         Some(_) => Some(Chain {
             first: place,
@@ -112,7 +103,7 @@ impl Engine {
         ensures within { (clusters : Option Below) → AreReached (reach (length space.now.slots) clusters) (view_of self.now) → IfSome result (λ q. IsReached (reach (length space.now.slots) clusters) q.value) }
     {
         match prepared.part(place) {
-            Some(&SimplePart::Apart(_)) => self.read_part(prepared, space, place),
+            Some(&SimplePart::Apart(apart)) => self.read_apart(prepared, space, apart),
             _ => self.quick_simple(prepared, place),
         }
     }
@@ -148,8 +139,7 @@ impl Engine {
         place: NodeId,
         chain: Chain,
     ) -> Option<Quick>
-        requires chain { IsChain prepared.now.program prepared.now.simple.links.items chain (tree_at prepared.now.program.nodes.items place) }
-        requires some { 0 < chain.count }
+        requires { IsChain prepared.now.program prepared.now.simple.links.items chain (tree_at prepared.now.program.nodes.items place) }
         ensures takes { IfSome result (λ q. TakesNow prepared.now.program (view_of self.now) space.now (tree_at prepared.now.program.nodes.items place) q.steps q.value) }
         ensures plain { IfSome result (λ _. is_splat (tree_at prepared.now.program.nodes.items place) ≡ false) }
         ensures some { IfSome result (λ q. 0 < q.steps) }
@@ -179,12 +169,13 @@ impl Engine {
         ensures few { IfSome result (λ q. q.steps ≤ 31) }
         ensures within { (clusters : Option Below) → AreReached (reach (length space.now.slots) clusters) (view_of self.now) → IfSome result (λ q. IsReached (reach (length space.now.slots) clusters) q.value) }
     {
-        if let Some(&SimplePart::Apart(chain)) = prepared.part(place)
-            && chain.count > 0
-        {
-            return self.chained(prepared, space, place, chain);
+        match prepared.part(place) {
+            Some(&SimplePart::Apart(ApartPart::Chain(chain))) => {
+                self.chained(prepared, space, place, chain)
+            }
+            Some(&SimplePart::Apart(apart)) => self.read_apart(prepared, space, apart),
+            _ => None,
         }
-        self.read_part(prepared, space, place)
     }
 
     /// The same. The value is written into memory there, and so that of no other part has to be.

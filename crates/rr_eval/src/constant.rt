@@ -82,19 +82,16 @@ fn set_in_main(space: &Space, name: Sym) -> Option<Response>
 }
 
 /// The value of a constant without a path that is no class of the program, where it is at hand: it was set to it, or is a built-in class.
-pub fn constant_of(program: &Program, space: &Space, name: Sym) -> Option<Ref>
-    ensures is { IfSome result (GivesAtOnce program.now space.now (plain_constant (context_of program.now) (own_class program.now name.0) name)) }
+pub fn constant_of(space: &Space, name: Sym, class: Option<BuiltInClass>) -> Option<Ref>
+    ensures is { (p : Program) → class ≡ class_named (slice_index_or (context_of p).symbols name.0 []) → IfSome result (GivesAtOnce p space.now (plain_constant (context_of p) None name)) }
     ensures within { (clusters : Option Below) → IfSome result (IsReached (reach (length space.now.slots) clusters)) }
 {
-    if own_class(program, name).is_some() {
-        return None;
-    }
     match set_in_main(space, name) {
         Some(response) => match response {
             Response::Gives(value) => Some(value),
             _ => None,
         },
-        None => match BuiltInClass::named(program.symbol_bytes(name)) {
+        None => match class {
             Some(class) => Some(Ref::Class(class.id())),
             None => None,
         },

@@ -1,9 +1,10 @@
 //! Parts that are evaluated without a frame most often, read out of the program beforehand.
 
 ghost use Rattle.std.specs.Prelude.{◌≡◌, List, Some, IfOk, IfSome, OnOk};
-ghost use Rattle.rr_tree.specs.Tree.{tree_at};
+ghost use Rattle.rr_tree.specs.Tree.{constant, empty, send, tree_at};
+ghost use Rattle.rr_tree.specs.declared.node.Path.TheVariants.{Plain};
 ghost use Rattle.rr_eval.specs.Nodes.{evaluated_tree, IsEvaluated};
-ghost use Rattle.rr_eval.specs.SimpleParts.{AreSimple, IsSimple, literal_of, operand_of, operation_of, simple_of};
+ghost use Rattle.rr_eval.specs.SimpleParts.{AreSimple, IsApart, IsSimple, literal_of, operand_of, operation_of, simple_of};
 ghost use Rattle.rr_eval.specs.declared.chains.Link.{Link};
 
 use crate::call_stack::Variable;
@@ -12,7 +13,7 @@ use crate::constant::own_class;
 use crate::nodes::evaluated_node;
 use crate::plain_methods::PlainMethod;
 use crate::prepared::Work;
-use rr_base::Sym;
+use rr_base::{BuiltInClass, Sym};
 use rr_space::Ref;
 use rr_tree::{BinaryOperator, Node, NodeId, Path, Program};
 use std::alloc::{AllocError, Global};
@@ -32,12 +33,25 @@ pub enum SimplePart {
     Value(Ref),
     /// `self`.
     Itself,
-    /// A part for which a function of its own is called: a chain of operators, or, where that has no links, what is taken for an instance
-    /// variable, for an attribute of an object that a variable holds, for a global variable or for a constant that is no class of the
-    /// program.
-    Apart(Chain),
+    /// A part for which a function of its own is called.
+    Apart(ApartPart),
     /// A part that needs a frame.
     Other,
+}
+
+/// What a part is for which a function of its own is called.
+#[derive(Clone, Copy)]
+pub enum ApartPart {
+    /// A chain of operators.
+    Chain(Chain),
+    /// An instance variable of `self`.
+    Field(Sym),
+    /// A call without arguments of what a variable holds.
+    Attribute(Variable, Sym),
+    /// A global variable.
+    Global(Sym),
+    /// A constant that is no class of the program, and the built-in class of its name.
+    Constant(Sym, Option<BuiltInClass>),
 }
 
 /// What the parts of a program are, by their places, and the links of the chains among them.
@@ -119,21 +133,59 @@ fn literal(program: &Program, node: Node) -> Option<Ref>
     }
 }
 
-/// Whether a node is taken for one that reads what an object holds.
+/// What a call without arguments of what stands at a place reads, where it is taken for one of an attribute.
 #[inline(always)]
-fn is_reading(program: &Program, plain: &Vec<PlainMethod>, node: Node) -> bool {
+fn attribute(
+    program: &Program,
+    plain: &Vec<PlainMethod>,
+    receiver: NodeId,
+    name: Sym,
+) -> Option<ApartPart>
+    ensures { (links : List Link) → IfSome result (IsApart program.now links (send (tree_at program.now.nodes.items receiver) name.0 empty)) }
+{
+    match operand_at(program, receiver) {
+        SimplePart::Variable(variable) => match is_attribute(plain, name) {
+            true => Some(ApartPart::Attribute(variable, name)),
+            false => None,
+        },
+        _ => None,
+    }
+}
+
+/// A constant, where no class of the program has its name.
+#[inline(always)]
+fn constant(program: &Program, name: Sym) -> Option<ApartPart>
+    ensures { (links : List Link) → IfSome result (IsApart program.now links (constant (Plain name))) }
+{
+    match own_class(program, name) {
+        Some(_) => None,
+        None => {
+            let class = BuiltInClass::named(program.symbol_bytes(name));
+            Some(ApartPart::Constant(name, class))
+        }
+    }
+}
+
+/// What a node reads, or is taken for one that reads it.
+#[inline(always)]
+fn reading(program: &Program, plain: &Vec<PlainMethod>, node: Node) -> Option<ApartPart>
+    requires { IsEvaluated node }
+    ensures { (links : List Link) → IfSome result (IsApart program.now links (evaluated_tree program.now.nodes.items node)) }
+{
     match node {
-        Node::Field(_) | Node::Global(_) | Node::Constant(Path::Plain(_)) => true,
+        Node::Field(name) => Some(ApartPart::Field(name)),
+        Node::Global(name) => Some(ApartPart::Global(name)),
+        Node::Constant(path) => match path {
+            Path::Plain(name) => constant(program, name),
+            Path::Ractor(_) => None,
+        },
         Node::Send {
             receiver,
             name,
             count: 0,
             ..
-        } => match operand_at(program, receiver) {
-            SimplePart::Variable(_) => is_attribute(plain, name),
-            _ => false,
-        },
-        _ => false,
+        } => attribute(program, plain, receiver, name),
+        _ => None,
     }
 }
 
@@ -145,9 +197,11 @@ fn part_at(program: &Program, plain: &Vec<PlainMethod>, place: NodeId) -> Simple
     if let Some(value) = literal(program, node) {
         return SimplePart::Value(value);
     }
+    if let Some(read) = reading(program, plain, node) {
+        return SimplePart::Apart(read);
+    }
     match node {
         Node::Itself => SimplePart::Itself,
-        _ if is_reading(program, plain, node) => SimplePart::Apart(Chain::NONE),
         _ => simple(program, node),
     }
 }
@@ -169,7 +223,7 @@ fn part_behind(
         && let Node::Binary(op, a, b) = evaluated_node(program, place)
         && let Some(chain) = chain_behind(program, parts, links, op, a, b)?
     {
-        return Ok(SimplePart::Apart(chain));
+        return Ok(SimplePart::Apart(ApartPart::Chain(chain)));
     }
     Ok(part)
 }

@@ -19,7 +19,6 @@ use crate::engine::Engine;
 use crate::frame::{Control, Frame};
 use crate::nodes::node_at;
 use crate::prepared::Prepared;
-use crate::problem::Answer;
 use rr_base::Sym;
 use rr_space::Space;
 use rr_tree::{Node, NodeId, Program};

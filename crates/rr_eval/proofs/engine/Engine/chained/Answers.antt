@@ -14,7 +14,7 @@ loop-links-init c =
     let p = c.args.prepared.now.program in
     let first = tree_at p.nodes.items c.args.chain.first in
     let links = c.in_ok-links.links.now in
-    let ends = ap (linked p first) c.in_ok-links.ensures ∙ (c.requires.chain c.requires.some).1 in
+    let ends = ap (linked p first) c.in_ok-links.ensures ∙ c.requires.1.1 in
     record {
       takes = (first, c.in_ok-found.ensures.takes, ends);
       plain = subst (λ t. is_splat t ≡ false) ends (linked_plain p first links c.in_ok-found.ensures.plain);
