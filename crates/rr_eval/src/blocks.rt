@@ -108,7 +108,7 @@ impl Engine {
         ensures left { self.new.left ≡ self.old.left }
     {
         self.calls.pop();
-        self.blocks.truncate(self.blocks.len().saturating_sub(1));
+        let _block = self.blocks.pop();
     }
 
     /// Takes the frame that runs away.

@@ -68,6 +68,9 @@ pub enum Entry {
     OfBlock(u32),
 }
 
+/// How many numbers frames have.
+const NUMBERS: usize = 4_294_967_296;
+
 /// The frames of the program and of the methods and blocks that run. There are no more than their numbers allow.
 #[derive(Drop)]
 pub struct CallStack {
@@ -211,7 +214,7 @@ impl CallStack {
     fn activation_of(&self, call: Invocation) -> Activation
         ensures { length self.now.frames < self.now.limit → result ≡ activation_in (Entry.OfMethod call) self.now.frames }
     {
-        let number = u32::try_from(self.frames.len()).unwrap_or(u32::MAX);
+        let number = (self.frames.len() % NUMBERS) as u32;
         let given = match call.block {
             Handed::Nothing => Given::Nothing,
             Handed::Beside => Given::Block {
