@@ -35,6 +35,9 @@ use rr_space::{Node, Ref, Space};
 use rr_tree::Program;
 use std::alloc::Global;
 
+/// For how many instance variables a new object has room at first: most have one or two.
+const FIELDS: usize = 2;
+
 /// Makes a new object of a class that is none of exceptions. A refused growth leaves the objects as they were.
 pub fn make_plain(alloc: Global, space: &mut Space, class: ClassId) -> Result<Ref, Fault>
     ensures name { IfOk result (λ object. object ≡ Ref.Local (length space.old.slots)) }
@@ -46,7 +49,8 @@ pub fn make_plain(alloc: Global, space: &mut Space, class: ClassId) -> Result<Re
     ensures changed { Changes space.old space.new }
     ensures full { IfErr result (λ f. Passes f space.old.limit (length (with_object (new_plain class.0) [] space.old).slots)) }
 {
-    match space.alloc(Node::Object(class, Vec::new(alloc))) {
+    let fields = Vec::with_capacity(alloc, FIELDS)?;
+    match space.alloc(Node::Object(class, fields)) {
         Ok(object) => Ok(object),
         Err(fault) => Err(fault),
     }

@@ -7,10 +7,10 @@ use Rattle.rr_eval.proofs.Running.{one_plain}
 use Rattle.rr_eval.proofs.making.make_plain.Goals as goal
 
 pub alloc-requires-clause-fields : goal.alloc-requires-clause-fields
-alloc-requires-clause-fields c = none_distinct _ c.new.ensures.items
+alloc-requires-clause-fields c = none_distinct _ c.in_ok-fields.ensures.items
 
 pub returns-in-Ok-clause-made : goal.returns-in-Ok-clause-made
-returns-in-Ok-clause-made c = one_plain c.args.space.now c.alloc.new.self c.args.class c.new.result.items c.new.ensures.items c.in-Ok.ensures.slots c.in-Ok.ensures.below c.in-Ok.ensures.keys c.in-Ok.ensures.rest
+returns-in-Ok-clause-made c = one_plain c.args.space.now c.alloc.new.self c.args.class c.in_ok-fields.fields.items c.in_ok-fields.ensures.items c.in-Ok.ensures.slots c.in-Ok.ensures.below c.in-Ok.ensures.keys c.in-Ok.ensures.rest
 
 pub returns-in-Ok-clause-read : goal.returns-in-Ok-clause-read
 returns-in-Ok-clause-read c below read = read_grown below c.args.space.now c.alloc.new.self read (ap (λ x. x.below) (returns-in-Ok-clause-made c))
