@@ -43,7 +43,8 @@ fn field_of(space: &Space, object: Ref, name: Sym) -> Option<Ref>
     }
 }
 
-/// What a global variable holds, where the main ractor reads it and that can be read.
+/// What a global variable holds, where the main ractor reads it and that can be read. It is called, and not compiled in place, for the
+/// registers of the readings around it.
 #[inline(never)]
 fn global_of(space: &Space, name: Sym) -> Option<Ref>
     ensures main { IfSome result (λ _. is_main space.now ≡ true) }

@@ -463,6 +463,7 @@ impl Engine {
         ensures falls { power (view_of self.new) + self.old.left ≤ power (view_of self.old) + self.new.left }
         ensures drops { IsTrue result → power (view_of self.new) < power (view_of self.old) }
     {
+        // Most of what is given are values: a test tells them before the match does.
         if let Control::Give(Answer::Gave(value)) = self.control {
             return self.resume_often(prepared, space, value, stop);
         }

@@ -100,7 +100,7 @@ impl Engine {
         self.enter_single(program, stop);
     }
 
-    /// Evaluates a `return`.
+    /// Evaluates a `return`. It is called, and not compiled in place, for the registers of the acts around it.
     #[inline(never)]
     pub fn visit_return(
         &mut self,
