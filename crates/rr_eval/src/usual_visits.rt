@@ -1,7 +1,6 @@
 //! Nodes that are usual: what they do needs neither memory nor the objects.
 
-ghost use Rattle.std.specs.Prelude.{◌≡◌, ◌+◌, ◌*◌, ◌<◌, ◌≤◌, ◌^◌, [], length, reverse, vec_capacity, Option, Some, IfSome, IsTrue, IsFalse, MatchOption, if◌then◌else◌};
-ghost use Rattle.rr_builtin.specs.Objects.{is_truthy};
+ghost use Rattle.std.specs.Prelude.{◌≡◌, ◌+◌, ◌*◌, ◌<◌, ◌≤◌, ◌^◌, [], length, reverse, vec_capacity, Option, Some, IfSome, IsTrue, IsFalse, MatchOption};
 ghost use Rattle.rr_space.specs.Tables.{Table, Below};
 ghost use Rattle.rr_tree.specs.Tree.{tree_at};
 ghost use Rattle.rr_tree.specs.declared.node.Node.{Node};
@@ -26,14 +25,6 @@ use crate::problem::Answer;
 use rr_builtin::is_truthy;
 use rr_space::{Ref, Space};
 use rr_tree::{BinaryOperator, Node, NodeId, Program};
-
-/// The part of a choice that its condition chooses.
-#[inline(always)]
-fn chosen(yes: NodeId, no: NodeId, condition: Ref) -> NodeId
-    ensures { result ≡ if is_truthy condition then yes else no }
-{
-    if is_truthy(condition) { yes } else { no }
-}
 
 impl Engine {
     /// Evaluates the part that a node evaluates first: its value, where it needs no frame. Otherwise a frame waits for it.
