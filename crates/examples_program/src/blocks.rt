@@ -98,7 +98,11 @@ clauses of a block|def f; p yield; end^nf do^nraise \"a\"^nrescue^n4^nensure^npu
 variables after an exception out of a block|def f; y = 1; yield; end; x = 1; begin; f { x = 2; raise \"a\" }; rescue; p x; end^n|2^n|
 blocks in one another to the limit|def f; yield; end; def g; f { g }; end; begin; g; rescue SystemStackError => e; puts e.message; end^n|stack level too deep^n|
 values that were held are dropped by break|def f; yield; end; p [1, (f { [2, [3, (break 4)]] }), 5]^n|[1, 4, 5]^n|
-a call with a block of a method that is missing|begin; g { 1 }; rescue => e; puts e.message; end^n|not here yet^n|
+a call with a block of a method that is missing|begin; g { 1 }; rescue NoMethodError => e; puts e.message; end^n|undefined method 'g' for an instance of Object^n|
+arguments before a method is missing|begin; g(puts(1)) { 2 }; rescue NoMethodError => e; puts e.message; end^n|1^nundefined method 'g' for an instance of Object^n|
+a call with a block that a receiver lacks|[[1], nil, Integer, 5].each { ^pv^p begin; v.g(2) do 3 end; rescue NoMethodError => e; puts e.message; end }^n|undefined method 'g' for an instance of Array^nundefined method 'g' for nil^nundefined method 'g' for class Integer^nundefined method 'g' for an instance of Integer^n|
+an iteration that self lacks|begin; each { 1 }; rescue NoMethodError => e; puts e.message; end^n|undefined method 'each' for an instance of Object^n|
+a block for a built-in method of self|begin; freeze { 1 }; rescue RuntimeError => e; puts e.message; end; begin; puts(1) { 2 }; rescue RuntimeError => e; puts e.message; end^n|not here yet^nnot here yet^n|
 one array for two parameters|def f; yield [1, 2]; end; f { ^px, y^p p x, y }^n|1^n2^n|
 a short array for two parameters|def f; yield [1]; yield []; end; f { ^px, y^p p x, y }^n|1^nnil^nnil^nnil^n|
 a long array for two parameters|def f; yield [1, 2, 3]; end; f { ^px, y^p p x, y }^n|1^n2^n|

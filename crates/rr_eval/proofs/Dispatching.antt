@@ -66,7 +66,7 @@ made_keeps c class cause raises b vs = making_keeps c class cause _ (λ o. initi
 built_in_keeps : (c : Context) (made : Option ClassId) (callee : Callee) (b : Option Tree) (v : Ref) (vs : List Ref) → Keeps (built_in c made callee b v vs)
 built_in_keeps c (Some class) callee b v vs = made_keeps c class Nil false b vs
 built_in_keeps c None callee None v vs = settled_keeps c
-built_in_keeps c None callee (Some b) v vs = with_block_keeps c (ractor_method c v callee) b (last_of vs)
+built_in_keeps c None callee (Some b) v vs = with_block_keeps c (ractor_method c v callee) callee b v (last_of vs)
 
 pub dispatched_keeps : (c : Context) (f : Option Callable) (callee : Callee) (b : Option Tree) (v : Ref) (vs : List Ref) → Keeps (dispatched c f callee b v vs)
 dispatched_keeps c (Some f) callee b v vs = method_keeps c f (way_of callee b v vs) vs

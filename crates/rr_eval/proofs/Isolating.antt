@@ -10,12 +10,13 @@ use Rattle.rr_space.specs.declared.refer.Ref.TheVariants.{Local}
 use Rattle.rr_tree.specs.Tree.{Tree}
 use Rattle.rr_isolation.specs.Names.{outer_names, uses_yield}
 use Rattle.rr_isolation.specs.Outer.{IsRefused}
+use Rattle.rr_eval.specs.declared.call.Callee.{Callee}
 use Rattle.rr_eval.specs.declared.problem.Problem.{Problem}
 use Rattle.rr_eval.specs.declared.problem.Problem.TheVariants.{UsesYield}
 use Rattle.rr_eval.specs.declared.ractor_method.RactorMethod.{RactorMethod}
 use Rattle.rr_eval.specs.Basics.{throw}
 use Rattle.rr_eval.specs.Context.{Context}
-use Rattle.rr_eval.specs.Starting.{raise_text, outer_text, isolated_rule, start_rule, start_problem, refused_block, started, with_block_rule}
+use Rattle.rr_eval.specs.Starting.{raise_text, outer_text, isolated_rule, start_rule, start_problem, refused_block, refused_call, started, with_block_rule}
 use Rattle.rr_eval.proofs.Keeping.{Keeps, make_keeps, raise_keeps, throw_keeps}
 
 -- they take no object away
@@ -35,9 +36,9 @@ started_keeps : (c : Context) (refused : Option Problem) (b : Tree) (v : Ref) �
 started_keeps c (Some e) b v = throw_keeps c e
 started_keeps c None b v = λ m. start_keeps c b (start_problem c m.table v)
 
-pub with_block_keeps : (c : Context) (m : Option RactorMethod) (b : Tree) (v : Ref) → Keeps (with_block_rule c m b v)
+pub with_block_keeps : (c : Context) (m : Option RactorMethod) (callee : Callee) (b : Tree) (v last : Ref) → Keeps (with_block_rule c m callee b v last)
 unfolding with_block_rule
-with_block_keeps c m b v = started_keeps c (refused_block m) b v
+with_block_keeps c m callee b v last = λ k. started_keeps c (refused_block (refused_call c k.table v callee) m) b last
 
 -- what comes of a start, by what was told of the block
 pub start_free : (c : Context) (b : Tree) (problem : Problem) → outer_names (length c.program.nodes.items) b ≡ [] → uses_yield (length c.program.nodes.items) b ≡ false → start_rule c b problem ≡ throw c problem

@@ -10,7 +10,7 @@ use Rattle.rr_eval.specs.Script.{Go, See}
 use Rattle.rr_eval.specs.declared.call.Callee.TheVariants as callees
 use Rattle.rr_eval.specs.declared.call.Target.TheVariants.{Do, Call as CallTarget, Super, Yield}
 use Rattle.rr_eval.specs.declared.call.Task.TheVariants.{MakeArray, MakeText}
-use Rattle.rr_eval.specs.Rules.{Context, rule, statements, arguments, on_value, with_value, finish, printing, raises, awaited, call_rule, own_method, block_call_rule, sent_block, loops, block_rule, not_here}
+use Rattle.rr_eval.specs.Rules.{Context, rule, statements, arguments, on_value, with_value, finish, printing, raises, awaited, call_rule, own_method, block_call_rule, sent_block, loops, only_own, block_rule, not_here}
 use Rattle.rr_eval.specs.Rescuing.{rescue_rule}
 use Rattle.rr_eval.specs.Nodes.{evaluated_tree, IsEvaluated, is_unknown}
 use Rattle.rr_eval.proofs.Trees.{items_listed}
@@ -47,8 +47,8 @@ yield_is ns c first count = ap (λ ts. arguments c ts [] (finish c Yield)) (sym 
 
 -- a call with a block
 pub block_call_is : (ns : List Node) (c : Context) (x : Sym) (first count site : ℕ) (b : Tree)
-    → See (λ m. block_call_rule c (own_method c x.0 m) (loops c x.0) x (trees_before ns (first + count) count) b) ≡ block_rule c (evaluated_tree ns (Call x first count site)) b
-block_call_is ns c x first count site b = ap (λ ts. See (λ m. block_call_rule c (own_method c x.0 m) (loops c x.0) x ts b)) (sym (items_listed (trees_before ns (first + count) count)))
+    → See (λ m. block_call_rule c (own_method c x.0 m) (loops c x.0) (only_own c x.0) x (trees_before ns (first + count) count) b) ≡ block_rule c (evaluated_tree ns (Call x first count site)) b
+block_call_is ns c x first count site b = ap (λ ts. See (λ m. block_call_rule c (own_method c x.0 m) (loops c x.0) (only_own c x.0) x ts b)) (sym (items_listed (trees_before ns (first + count) count)))
 
 -- the arguments of `super`
 pub super_is : (ns : List Node) (c : Context) (first count : ℕ) → arguments c (trees_before ns (first + count) count) [] (finish c Super) ≡ rule c (evaluated_tree ns (nodes.Super first count))

@@ -1,5 +1,5 @@
 -- An evaluation takes no object away.
-use Rattle.std.proofs.Common.{◌≡◌, refl, slice_index_or, ap, sym, subst, ◌≤◌, ◌-◌, ℕ, zero, suc, Bool, arith, List, [], ◌∷◌, ◌++◌, length, reverse, Option, Some, None, true, false}
+use Rattle.std.proofs.Common.{if◌then◌else◌, ◌≡◌, refl, slice_index_or, ap, sym, subst, ◌≤◌, ◌-◌, ℕ, zero, suc, Bool, arith, List, [], ◌∷◌, ◌++◌, length, reverse, Option, Some, None, true, false}
 use Rattle.std.specs.Prelude.{codes}
 use Rattle.rr_base.specs.Classes.{class_id}
 use Rattle.rr_base.specs.ClassNames.{class_named}
@@ -39,10 +39,10 @@ use Rattle.rr_eval.specs.View.{View}
 use Rattle.rr_eval.specs.Acts.{Passes}
 use Rattle.rr_eval.specs.Turns.{context_of, code_of, state_of, after_script, asking_then}
 use Rattle.rr_builtin.specs.Acts.{with_text}
-use Rattle.rr_eval.specs.Rules.{Context, items, throw, raise, settled, turn_rule, on_table, statements, values, pair_parts, finish, printing, raises, awaited, bare_rule, constant_rule, call_rule, block_call_rule, block_rule, asks_block, own_method, own_class, plain_constant, has_built_in, name_rule, running, variable_of, rule, part_rule, loops, eval, concluded, begun}
+use Rattle.rr_eval.specs.Rules.{Context, items, throw, raise, settled, turn_rule, on_table, statements, values, pair_parts, finish, printing, raises, awaited, bare_rule, constant_rule, call_rule, block_call_rule, block_rule, asks_block, own_method, own_class, plain_constant, name_rule, running, variable_of, rule, part_rule, loops, only_own, not_here, arguments, self_rule, eval, concluded, begun}
 use Rattle.rr_eval.specs.Methods.{Callable}
 use Rattle.rr_eval.specs.Above.{parameters_of}
-use Rattle.rr_eval.specs.Callees.{method_of}
+use Rattle.rr_eval.specs.Callees.{has_built_in, method_of}
 use Rattle.rr_eval.specs.Dispatch.{initializer, passed_on}
 use Rattle.rr_space.specs.Kinds.{kind_at}
 use Rattle.rr_builtin.specs.Fields.{field_at}
@@ -130,14 +130,17 @@ call_keeps c None None true later x ts = arguments_keep c _ (finish_keeps c Rais
 call_keeps c None None false true x ts = throw_keeps c NotHere
 call_keeps c None None false false x ts = arguments_keep c _ (finish_keeps c (Own x None)) ts []
 
-block_call_keeps : (c : Context) (m : Option Callable) (loop : Bool) (x : Sym) (ts : List Tree) (b : Tree) → Keeps (block_call_rule c m loop x ts b)
-block_call_keeps c (Some m) loop x ts b = arguments_keep c _ (self_keeps c x (Some b)) ts []
-block_call_keeps c None true x [] b = continued_keeps c (record { visits = Forever; stand = []; block = b })
-block_call_keeps c None true x (t ∷ ts) b = throw_keeps c NotHere
-block_call_keeps c None false x ts b = throw_keeps c NotHere
+own_call_keeps : (c : Context) (own : Bool) (x : Sym) (ts : List Tree) (b : Tree) → Keeps (if own then not_here c else arguments c ts [] (self_rule c x (Some b)))
+own_call_keeps c own x ts b = if_keeps own (not_here c) (arguments c ts [] (self_rule c x (Some b))) (throw_keeps c NotHere) (arguments_keep c _ (self_keeps c x (Some b)) ts [])
+
+block_call_keeps : (c : Context) (m : Option Callable) (loop own : Bool) (x : Sym) (ts : List Tree) (b : Tree) → Keeps (block_call_rule c m loop own x ts b)
+block_call_keeps c (Some m) loop own x ts b = arguments_keep c _ (self_keeps c x (Some b)) ts []
+block_call_keeps c None true own x [] b = continued_keeps c (record { visits = Forever; stand = []; block = b })
+block_call_keeps c None true own x (t ∷ ts) b = own_call_keeps c own x (t ∷ ts) b
+block_call_keeps c None false own x ts b = own_call_keeps c own x ts b
 
 block_keeps : (c : Context) (t b : Tree) → Keeps (block_rule c t b)
-block_keeps c (call x list) b = λ m. block_call_keeps c (own_method c x m) (loops c x) (record { 0 = x }) (items list) b
+block_keeps c (call x list) b = λ m. block_call_keeps c (own_method c x m) (loops c x) (only_own c x) (record { 0 = x }) (items list) b
 block_keeps c (send a x list) b = on_value_keeps _ (λ v. arguments_keep c _ (sent_block_keeps c (record { 0 = x }) b) (items list) (v ∷ []))
 block_keeps c _ b = throw_keeps c NotHere
 

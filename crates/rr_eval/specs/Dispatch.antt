@@ -196,7 +196,7 @@ new_rule c class b vs = made_rule c class Nil false b vs
 abbrev pub built_in : Context → Option ClassId → Callee → Option Tree → Ref → List Ref → Script
 built_in c (Some class) callee b v vs = new_rule c class b vs
 built_in c None callee None v vs = send_to c callee v vs
-built_in c None callee (Some b) v vs = with_block_rule c (ractor_method c v callee) b (last_of vs)
+built_in c None callee (Some b) v vs = with_block_rule c (ractor_method c v callee) callee b v (last_of vs)
 
 -- a call that runs this method of the program, or, where there is none, a built-in one
 abbrev pub dispatched : Context → Option Callable → Callee → Option Tree → Ref → List Ref → Script

@@ -1,5 +1,5 @@
 -- The rules of the language, each on a whole tree.
-use Rattle.std.specs.Prelude.{ℕ, ◌+◌, zero, suc, Bool, true, false, not, List, [], ◌∷◌, if◌then◌else◌, slice_index_or, length, Option, Some, None, codes, ◌++◌}
+use Rattle.std.specs.Prelude.{ℕ, ◌+◌, zero, suc, Bool, true, false, not, List, [], ◌∷◌, if◌then◌else◌, slice_index_or, length, Option, Some, None, codes, ◌++◌, is_some, ◌||◌}
 use Rattle.rr_space.specs.Tables.{Table}
 use Rattle.rr_space.specs.Parts.{truth_ref}
 use Rattle.rr_space.specs.declared.refer.Ref.{Ref}
@@ -18,11 +18,8 @@ use Rattle.rr_eval.specs.declared.problem.Answer.TheVariants.{Gave, Raised, Brok
 use Rattle.rr_eval.specs.declared.problem.Problem.TheVariants.{MissingName}
 use Rattle.rr_frames.specs.Frames.{Frame as Activated, laid, no_frame}
 use Rattle.rr_eval.specs.Methods.{Callable}
-use Rattle.rr_eval.specs.Callees.{method_of}
-use Rattle.rr_builtin.specs.Kinds.{has}
-use Rattle.rr_builtin.specs.declared.method.BuiltInMethod.{BuiltInMethod}
+use Rattle.rr_eval.specs.Callees.{has_built_in, method_of}
 use Rattle.rr_space.specs.Kinds.{kind_at}
-use Rattle.rr_space.specs.declared.kind.Kind.{Kind}
 use Rattle.rr_eval.specs.Script.{State, Script, Ret, Go, See, Part, TreePart, TurnPart, CallPart, AssignPart, Memory, World, Outcome, Ended, Spent, Waits, Evaluation, run}
 use Rattle.rr_eval.specs.declared.iterating.Visits.TheVariants.{Forever}
 use Rattle.rr_eval.specs.Iterating.{continued, turned, body_in, iteration_rule, is_loop}
@@ -125,11 +122,6 @@ awaited c x = is_awaited (slice_index_or c.symbols x [])
 abbrev pub own_method : Context → ℕ → Memory → Option Callable
 own_method c x m = method_for c m.table (running m.calls.frames).itself (callees.Name (record { 0 = x }))
 
--- whether values of a kind have a built-in method of the name
-abbrev pub has_built_in : Kind → Option BuiltInMethod → Bool
-has_built_in k None = false
-has_built_in k (Some m) = has k m
-
 -- a bare name that is none of a method of the program and none of those that only `self` has
 abbrev pub name_rule : Context → Sym → Script
 name_rule c x =
@@ -152,14 +144,19 @@ call_rule c None None true later x ts = arguments c ts [] (finish c Raise)
 call_rule c None None false true x ts = not_here c
 call_rule c None None false false x ts = arguments c ts [] (finish c (Own x None))
 
--- A call with a block, of a method of the program or of `loop`. No other call without a receiver takes a block yet.
-abbrev pub block_call_rule : Context → Option Callable → Bool → Sym → List Tree → Tree → Script
-block_call_rule c (Some f) loop x ts b = arguments c ts [] (self_rule c x (Some b))
-block_call_rule c None true x [] b = continued c (record { visits = Forever; stand = []; block = b })
-block_call_rule c None loop x ts b = not_here c
+-- whether only `self` has a method of the name
+abbrev pub only_own : Context → ℕ → Bool
+only_own c x = is_some (printing c x) || (raises c x || awaited c x)
+
+-- A call with a block: of a method of the program, of `loop`, of another method that only `self` has, which takes no block yet, or of a
+-- built-in method of `self`.
+abbrev pub block_call_rule : Context → Option Callable → Bool → Bool → Sym → List Tree → Tree → Script
+block_call_rule c (Some f) loop own x ts b = arguments c ts [] (self_rule c x (Some b))
+block_call_rule c None true own x [] b = continued c (record { visits = Forever; stand = []; block = b })
+block_call_rule c None loop own x ts b = if own then not_here c else arguments c ts [] (self_rule c x (Some b))
 
 abbrev pub block_rule : Context → Tree → Tree → Script
-block_rule c (call x list) b = See (λ m. block_call_rule c (own_method c x m) (loops c x) (record { 0 = x }) (items list) b)
+block_rule c (call x list) b = See (λ m. block_call_rule c (own_method c x m) (loops c x) (only_own c x) (record { 0 = x }) (items list) b)
 block_rule c (send a x list) b = with_value a (λ v. arguments c (items list) (v ∷ []) (sent_block c (record { 0 = x }) b))
 block_rule c t b = not_here c
 

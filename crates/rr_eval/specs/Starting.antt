@@ -18,13 +18,15 @@ use Rattle.rr_isolation.specs.Names.{outer_names, uses_yield}
 use Rattle.rr_builtin.specs.Acts.{with_text}
 use Rattle.rr_builtin.specs.Kinds.{is_hash}
 use Rattle.rr_builtin.specs.declared.problem.Problem.TheVariants.{WrongType}
+use Rattle.rr_eval.specs.declared.call.Callee.{Callee}
 use Rattle.rr_eval.specs.declared.problem.Problem.{Problem}
-use Rattle.rr_eval.specs.declared.problem.Problem.TheVariants.{BuiltIn, UsesYield, NoRactors, NotHere}
+use Rattle.rr_eval.specs.declared.problem.Problem.TheVariants.{BuiltIn, MissingMethod, UsesYield, NoRactors, NotHere}
 use Rattle.rr_eval.specs.declared.ractor_method.RactorMethod.{RactorMethod}
 use Rattle.rr_eval.specs.declared.ractor_method.RactorMethod.TheVariants.{Start, WithOthers}
 use Rattle.rr_eval.specs.Basics.{raise, throw}
+use Rattle.rr_eval.specs.Callees.{has_built_in, method_of}
 use Rattle.rr_eval.specs.Context.{Context}
-use Rattle.rr_eval.specs.Responses.{own_of}
+use Rattle.rr_eval.specs.Responses.{own_of, receiver_of}
 use Rattle.rr_eval.specs.Script.{Script, See, Do}
 
 -- ---- Its keyword `name:`. The values of a call do not tell keywords from a hash: a hash as the last of them is the keyword, where it has
@@ -84,18 +86,23 @@ isolated_rule c [] false problem = throw c problem
 unfoldable pub start_rule : Context → Tree → Problem → Script
 start_rule c b problem = isolated_rule c (outer_names (length c.program.nodes.items) b) (uses_yield (length c.program.nodes.items) b) problem
 
--- Why a call with a block of what may be a method of Ractor is refused: for no reason where it is `new`. No other built-in method is given a
--- block yet.
-abbrev pub refused_block : Option RactorMethod → Option Problem
-refused_block (Some Start) = None
-refused_block (Some WithOthers) = Some NoRactors
-refused_block m = Some NotHere
+-- Why a call with a block of a method that is none of Ractor is refused: no built-in method but the iterations is given a block yet, and a
+-- receiver may have no method of the name.
+abbrev pub refused_call : Context → Table → Ref → Callee → Problem
+refused_call c t v callee = if has_built_in (kind_at t v) (method_of c callee) then NotHere else MissingMethod callee (receiver_of t v)
+
+-- why a call with a block of what may be a method of Ractor is refused: for no reason where it is `new`
+abbrev pub refused_block : Problem → Option RactorMethod → Option Problem
+refused_block e None = Some e
+refused_block e (Some Start) = None
+refused_block e (Some WithOthers) = Some NoRactors
+refused_block e (Some m) = Some NotHere
 
 -- a call with a block of a method of Ractor that is `new`, where it is not refused, by the last of its arguments
 abbrev pub started : Context → Option Problem → Tree → Ref → Script
 started c (Some e) b v = throw c e
 started c None b v = See (λ m. start_rule c b (start_problem c m.table v))
 
--- a call with a block of what may be a method of Ractor
-unfoldable pub with_block_rule : Context → Option RactorMethod → Tree → Ref → Script
-with_block_rule c m b v = started c (refused_block m) b v
+-- a call with a block of a receiver, of what may be a method of Ractor, whose last argument this is
+unfoldable pub with_block_rule : Context → Option RactorMethod → Callee → Tree → Ref → Ref → Script
+with_block_rule c m callee b v last = See (λ k. started c (refused_block (refused_call c k.table v callee) m) b last)

@@ -16,7 +16,7 @@ ghost use Rattle.rr_eval.specs.Requests.{Course};
 ghost use Rattle.rr_builtin.specs.Iterations.{iteration_named};
 ghost use Rattle.rr_eval.specs.declared.iterating.Visits.{Visits};
 ghost use Rattle.rr_eval.specs.Iterating.{continued};
-ghost use Rattle.rr_eval.specs.Rules.{arguments, with_value, finish, loops, block_rule, block_call_rule, own_method, sent_block};
+ghost use Rattle.rr_eval.specs.Rules.{arguments, with_value, finish, loops, only_own, block_rule, block_call_rule, own_method, sent_block};
 ghost use Rattle.rr_eval.specs.Script.{Script, Do};
 ghost use Rattle.rr_eval.specs.Turns.{context_of, blocks_of, state_of, IsNested, after_script, after_values, remaining_with, Stands, size, continuing, sized};
 ghost use Rattle.rr_eval.specs.Views.{view_of};
@@ -27,6 +27,7 @@ use crate::call_stack::Entry;
 use crate::engine::Engine;
 use crate::frame::{Control, Frame, standing};
 use crate::iterating::{Iterating, Visits, is_loop};
+use crate::named::is_only_own;
 use crate::nodes::evaluated_node;
 use crate::prepared::Prepared;
 use crate::problem::Problem;
@@ -308,7 +309,8 @@ impl Engine {
         self.call_turn(program, space, iteration, None, None)
     }
 
-    /// Evaluates a call with a block of a name: of a method of the program, of `loop`, or of one that takes no block yet.
+    /// Evaluates a call with a block of a name: of a method of the program, of `loop`, of another that only `self` has, which takes no
+    /// block yet, or of a built-in method of `self`.
     #[tactic(auto, unfolding(crate::specs::Within::AreReached))]
     fn open_block_call(
         &mut self,
@@ -321,7 +323,7 @@ impl Engine {
     ) -> Result<Option<Request>, Fault>
         requires small { first + count < 2 ^ 32 }
         requires nested { IsNested (view_of self.old) }
-        ensures goes { IfOk result (λ q. (h : Course) (n : ℕ) → after_script prepared.now.program (view_of self.old) space.now (block_call_rule (context_of prepared.now.program) (own_method (context_of prepared.now.program) name.0 (state_of prepared.now.program (view_of self.old) space.now h).memory) (loops (context_of prepared.now.program) name.0) name (trees_before prepared.now.program.nodes.items (first + count) count) (tree_at prepared.now.program.nodes.items block)) h n ≡ continuing prepared.now.program (view_of self.new) space.now q h n) }
+        ensures goes { IfOk result (λ q. (h : Course) (n : ℕ) → after_script prepared.now.program (view_of self.old) space.now (block_call_rule (context_of prepared.now.program) (own_method (context_of prepared.now.program) name.0 (state_of prepared.now.program (view_of self.old) space.now h).memory) (loops (context_of prepared.now.program) name.0) (only_own (context_of prepared.now.program) name.0) name (trees_before prepared.now.program.nodes.items (first + count) count) (tree_at prepared.now.program.nodes.items block)) h n ≡ continuing prepared.now.program (view_of self.new) space.now q h n) }
         ensures nested { IsNested (view_of self.new) }
         ensures within { (clusters : Option Below) → AreReached (reach (length space.now.slots) clusters) (view_of self.old) → AreReached (reach (length space.now.slots) clusters) (view_of self.new) }
         ensures left { self.new.left ≡ self.old.left }
@@ -336,10 +338,11 @@ impl Engine {
                 self.open_loop(&prepared.program, space, block)?;
                 Ok(None)
             }
-            None => {
+            None if is_only_own(&prepared.program, name) => {
                 self.control = Control::Throw(Problem::NotHere);
                 Ok(None)
             }
+            None => self.open_own(prepared, space, name, Some(block), first, count),
         }
     }
 

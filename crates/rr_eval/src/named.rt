@@ -8,7 +8,7 @@ ghost use Rattle.rr_eval.specs.declared.frame.Control.{Control};
 ghost use Rattle.rr_eval.specs.Requests.{Course};
 ghost use Rattle.std.specs.Option.{option_map};
 ghost use Rattle.rr_eval.specs.Prepared.{callable_of};
-ghost use Rattle.rr_eval.specs.Rules.{arguments, finish, printing, raises, asks_block, awaited, own_method, bare_rule, call_rule};
+ghost use Rattle.rr_eval.specs.Rules.{arguments, finish, printing, raises, asks_block, awaited, only_own, own_method, bare_rule, call_rule};
 ghost use Rattle.rr_tree.specs.Nodes.{trees_before};
 ghost use Rattle.rr_eval.specs.Turns.{context_of, state_of, IsNested, after_script, continuing, Stands, size, sized};
 ghost use Rattle.rr_eval.specs.Views.{view_of};
@@ -41,6 +41,14 @@ fn printing(program: &Program, name: Sym) -> Option<Task>
     } else {
         None
     }
+}
+
+/// Whether only `self` has a method of the name.
+pub fn is_only_own(program: &Program, name: Sym) -> bool
+    ensures { result ≡ only_own (context_of program.now) name.0 }
+{
+    let bytes = program.symbol_bytes(name);
+    printing(program, name).is_some() || is_raise(bytes) || is_awaited(bytes)
 }
 
 impl Engine {

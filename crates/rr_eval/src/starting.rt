@@ -16,7 +16,7 @@ ghost use Rattle.rr_eval.specs.Frames.{below_of, base_of, stand_of, Nested};
 ghost use Rattle.rr_eval.specs.RactorMethods.{ractor_method};
 ghost use Rattle.rr_eval.specs.Requests.{Course, Adds};
 ghost use Rattle.rr_eval.specs.Script.{objects_of};
-ghost use Rattle.rr_eval.specs.Starting.{is_name_key, gives_name, is_name, named_by, named_in, start_problem, refused_block, behind_commas, listed_names, outer_text, raise_text, start_rule, with_block_rule};
+ghost use Rattle.rr_eval.specs.Starting.{is_name_key, gives_name, is_name, named_by, named_in, start_problem, refused_block, refused_call, behind_commas, listed_names, outer_text, raise_text, start_rule, with_block_rule};
 ghost use Rattle.rr_eval.specs.Turns.{context_of, IsNested, after_values, remaining, remaining_with, Stands, size};
 ghost use Rattle.rr_eval.specs.Views.{view_of};
 ghost use Rattle.rr_eval.specs.Within.{Reach, AreReached, AreWithin, KeepsReach, KeepsRead};
@@ -32,8 +32,9 @@ use crate::prepared::Prepared;
 use crate::problem::Problem;
 use crate::ractor_method::{RactorMethod, ractor_method};
 use crate::sending::last_of;
+use crate::serve::receiver_of;
 use rr_base::{BuiltInClass, Fault, Sym};
-use rr_builtin::Problem as BuiltInProblem;
+use rr_builtin::{Problem as BuiltInProblem, has};
 use rr_isolation::isolate;
 use rr_space::{Kind, Label, Ref, Space};
 use rr_tree::{NodeId, Program};
@@ -110,9 +111,21 @@ fn start_problem(program: &Program, space: &Space, value: Ref) -> Problem
     }
 }
 
-/// Why a call with a block of what may be a method of Ractor is refused: for no reason where it is `new`.
-fn refused_block(method: Option<RactorMethod>) -> Option<Problem>
-    ensures { result ≡ refused_block method }
+/// Why a call with a block of a method that is none of Ractor is refused: no built-in method but the iterations is given a block yet, and
+/// a receiver may have no method of the name.
+fn refused_call(prepared: &Prepared, space: &Space, receiver: Ref, callee: Callee) -> Problem
+    ensures { result ≡ refused_call (context_of prepared.now.program) space.now receiver callee }
+{
+    match prepared.built_in(callee) {
+        Some(method) if has(space.kind_of(receiver), method) => Problem::NotHere,
+        _ => Problem::MissingMethod(callee, receiver_of(space, receiver)),
+    }
+}
+
+/// Why a call with a block of what may be a method of Ractor is refused, where one of another method is refused so: for no reason where
+/// it is `new`.
+fn refused_block(other: Problem, method: Option<RactorMethod>) -> Option<Problem>
+    ensures { result ≡ refused_block other method }
 {
     match method {
         Some(RactorMethod::Start) => None,
@@ -124,7 +137,7 @@ fn refused_block(method: Option<RactorMethod>) -> Option<Problem>
         Some(RactorMethod::IsMain) => Some(Problem::NotHere),
         Some(RactorMethod::Name) => Some(Problem::NotHere),
         Some(RactorMethod::Later) => Some(Problem::NotHere),
-        None => Some(Problem::NotHere),
+        None => Some(other),
     }
 }
 
@@ -216,13 +229,14 @@ impl Engine {
     )
         requires base { base_of frame ≤ length self.old.held.items }
         requires nested { Nested (reverse self.old.frames.items) (below_of frame self.old.held.items) }
-        ensures goes { (h : Course) (n : ℕ) → after_values prepared.now.program (view_of self.old) space.now frame (with_block_rule (context_of prepared.now.program) (ractor_method (context_of prepared.now.program) receiver callee) (tree_at prepared.now.program.nodes.items block) (last_of (passed_on passing (stand_of frame self.old.held.items ++ list_of last)))) h n ≡ remaining_with prepared.now.program (view_of self.new) space.now h n }
+        ensures goes { (h : Course) (n : ℕ) → after_values prepared.now.program (view_of self.old) space.now frame (with_block_rule (context_of prepared.now.program) (ractor_method (context_of prepared.now.program) receiver callee) callee (tree_at prepared.now.program.nodes.items block) receiver (last_of (passed_on passing (stand_of frame self.old.held.items ++ list_of last)))) h n ≡ remaining_with prepared.now.program (view_of self.new) space.now h n }
         ensures nested { IsNested (view_of self.new) }
         ensures within { (k : Reach) → AreReached k (view_of self.old) → AreReached k (view_of self.new) }
         ensures left { self.new.left ≡ self.old.left }
         ensures size { size (view_of self.new) ≤ 3 * length self.old.frames.items + 4 }
     {
-        match refused_block(ractor_method(&prepared.program, receiver, callee)) {
+        let other = refused_call(prepared, space, receiver, callee);
+        match refused_block(other, ractor_method(&prepared.program, receiver, callee)) {
             Some(problem) => self.refuse(frame, problem),
             None => {
                 let (values, last) = passed(passing, standing(&self.held, frame), last);
