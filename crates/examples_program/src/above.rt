@@ -21,6 +21,7 @@ an exception of a class above|class E < StandardError; end; class F < E; end; be
 super with ensure|class A; def f; 1; end; end; class B < A; def f; super; ensure; puts 2; end; end; p B.new.f^n|2^n1^n|
 super of an exception's initialize|class E < StandardError; def initialize(n); super(\"n is #{n}\"); @n = n; end; def n; @n; end; end; begin; raise E.new(5); rescue E => e; puts e.message, e.n; end^n|n is 5^n5^n|
 super of an exception's initialize without a message|class E < StandardError; def initialize; super(); end; end; puts E.new.message^n|E^n|
+super of an exception's initialize gives the exception|class E < StandardError; def initialize(n); p super(\"a\"), super(); end; end; puts E.new(5).message^n|#<E: E>^n#<E: E>^nE^n|
 super to an attr_accessor|class A; attr_accessor :x; end; class B < A; def x=(v); super(v * 2); end; end; b = B.new; b.x = 4; p b.x; p(b.x = 5)^n|8^n5^n|
 super alone to an attr_writer|class A; attr_reader :y; attr_writer :y; end; class B < A; def y=(v); super; end; end; b = B.new; b.y = 7; p b.y^n|7^n|
 super to the last writer of a class|class A; attr_writer :x; def x=(v); @x = v + 1; end; def x; @x; end; end; class B < A; def x=(v); super; end; end; b = B.new; b.x = 7; p b.x^n|8^n|

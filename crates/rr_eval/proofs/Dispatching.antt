@@ -97,10 +97,11 @@ negates c v = send_keeps c callees.Opposite None v []
 
 -- `super`
 initialize_keeps : (c : Context) (k : Kind) (v : Ref) (vs : List Ref) → Keeps (initialize_above c k v vs)
+initialize_keeps c kinds.Exception v [] = λ m. settled_keeps c
 initialize_keeps c kinds.Exception v (w ∷ []) = λ m. settled_keeps c
+initialize_keeps c kinds.Exception v (w ∷ x ∷ vs) = throw_keeps c (BuiltIn (Count (length (w ∷ x ∷ vs)) 0 1))
 initialize_keeps c k v [] = tt
-initialize_keeps c kinds.Exception v vs = throw_keeps c (BuiltIn (Count (length vs) 0 1))
-initialize_keeps c k v vs = throw_keeps c (BuiltIn (Count (length vs) 0 0))
+initialize_keeps c k v (w ∷ vs) = throw_keeps c (BuiltIn (Count (length (w ∷ vs)) 0 0))
 
 super_sent_keeps : (c : Context) (f : Option Callable) (a : Activation) (t : Table) (vs : List Ref) → Keeps (super_sent c f a t vs)
 super_sent_keeps c (Some f) a t vs = method_keeps c f _ vs

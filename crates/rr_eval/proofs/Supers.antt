@@ -10,8 +10,10 @@ use Rattle.rr_space.specs.declared.refer.Ref.TheVariants.{Nil}
 use Rattle.rr_builtin.specs.declared.problem.Problem.TheVariants.{Count}
 use Rattle.rr_eval.specs.declared.frame.Frame.{Frame}
 use Rattle.rr_eval.specs.declared.problem.Problem.TheVariants.{BuiltIn}
-use Rattle.rr_eval.specs.Above.{initialize_above}
+use Rattle.rr_eval.specs.declared.problem.Answer.TheVariants.{Gave}
+use Rattle.rr_eval.specs.Above.{initialize_above, with_message}
 use Rattle.rr_eval.specs.Basics.{throw}
+use Rattle.rr_eval.specs.Script.{Ret}
 use Rattle.rr_eval.specs.Blocks.{running}
 use Rattle.rr_eval.specs.Context.{Context}
 use Rattle.rr_eval.specs.Variables.{top}
@@ -19,10 +21,15 @@ use Rattle.rr_eval.specs.View.{View}
 use Rattle.rr_eval.specs.Within.{Reach, AreReached, AreVariablesReached, IsReached, IsFrameReached}
 use Rattle.rr_eval.proofs.Holding.{all_append, all_rest, frame_within, itself_within, calls_reached}
 
--- no arguments
-pub none_given : (vs : List Ref) → length vs ≡ 0 → vs ≡ []
-none_given [] none = refl
-none_given (v ∷ vs) none = absurd (omega (arith, none))
+-- no message for an exception, and nothing for another object
+pub no_message : (c : Context) (v : Ref) (vs : List Ref) → length vs ≡ 0 → initialize_above c Exception v vs ≡ with_message c v Nil
+no_message c v [] none = refl
+no_message c v (w ∷ vs) none = absurd (omega (arith, none))
+
+pub nothing_given : (c : Context) (k : Kind) (v : Ref) (vs : List Ref) → (k ≡ Exception → ⊥) → length vs ≡ 0 → initialize_above c k v vs ≡ Ret (Gave Nil)
+nothing_given c Exception v vs other none = absurd (other refl)
+nothing_given c k v [] other none = refl
+nothing_given c k v (w ∷ vs) other none = absurd (omega (arith, none))
 
 -- more than one message for an exception
 pub messages_refused : (c : Context) (v : Ref) (vs : List Ref) → (length vs ≡ 0 → ⊥) → nat_eq (length vs) 1 ≡ false → initialize_above c Exception v vs ≡ throw c (BuiltIn (Count (length vs) 0 1))
@@ -34,8 +41,7 @@ messages_refused c v (w ∷ x ∷ vs) some more = refl
 pub arguments_refused : (c : Context) (k : Kind) (v : Ref) (vs : List Ref) → (k ≡ Exception → ⊥) → (length vs ≡ 0 → ⊥) → initialize_above c k v vs ≡ throw c (BuiltIn (Count (length vs) 0 0))
 arguments_refused c Exception v vs other some = absurd (other refl)
 arguments_refused c k v [] other some = absurd (some refl)
-arguments_refused c _ v (w ∷ []) other some = refl
-arguments_refused c _ v (w ∷ x ∷ vs) other some = refl
+arguments_refused c k v (w ∷ vs) other some = refl
 
 -- a variable of a frame
 any_at : {A : Type 0} (P : A → Type 0) (xs : List A) (i : ℕ) (d : A) → P d → All P xs → P (slice_index_or xs i d)

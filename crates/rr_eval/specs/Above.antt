@@ -32,11 +32,16 @@ abbrev pub method_above : Context → Activation → Table → Option Callable
 method_above c a t =
     unless_below (is_below (kind_at t a.itself) (method_of c (callees.Name a.name)) (iteration_of c (callees.Name a.name))) (found_above c.program (superclass_of c.program a.class.0) (Plain a.name))
 
+-- an exception gets a message, nil for none, and is the value
+abbrev pub with_message : Context → Ref → Ref → Script
+with_message c v w = See (λ m. Ask (Does SetMessage (v ∷ w ∷ []) m.table) (settled c))
+
 -- `initialize` of Object takes nothing, and that of an exception its message
 abbrev pub initialize_above : Context → Kind → Ref → List Ref → Script
-initialize_above c Exception v (w ∷ []) = See (λ m. Ask (Does SetMessage (v ∷ w ∷ []) m.table) (settled c))
-initialize_above c k v [] = Ret (Gave Nil)
+initialize_above c Exception v [] = with_message c v Nil
+initialize_above c Exception v (w ∷ []) = with_message c v w
 initialize_above c Exception v vs = throw c (BuiltIn (Count (length vs) 0 1))
+initialize_above c k v [] = Ret (Gave Nil)
 initialize_above c k v vs = throw c (BuiltIn (Count (length vs) 0 0))
 
 abbrev pub is_initialize : Context → Sym → Bool

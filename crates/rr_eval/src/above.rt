@@ -9,11 +9,13 @@ ghost use Rattle.rr_space.specs.Kinds.{kind_at};
 ghost use Rattle.rr_space.specs.Tables.{Table, Below};
 ghost use Rattle.rr_tree.specs.Nodes.{trees_before};
 ghost use Rattle.rr_tree.specs.declared.program.Program.{Program};
-ghost use Rattle.rr_eval.specs.Above.{initialize_above, parameters_of, super_sent, super_rule};
+ghost use Rattle.rr_eval.specs.declared.problem.Answer.{Answer as Answers};
+ghost use Rattle.rr_eval.specs.Above.{initialize_above, parameters_of, super_sent, super_rule, with_message};
 ghost use Rattle.rr_eval.specs.Context.{Context};
 ghost use Rattle.rr_eval.specs.Rules.{arguments, finish, throw};
 ghost use Rattle.rr_eval.specs.Requests.{Course};
 ghost use Rattle.rr_eval.specs.Frames.{below_of, base_of, stand_of, Nested};
+ghost use Rattle.rr_eval.specs.Script.{Ret};
 ghost use Rattle.rr_eval.specs.Turns.{context_of, IsNested, after_script, after_values, continuing, Stands, sized};
 ghost use Rattle.rr_eval.specs.Views.{view_of};
 ghost use Rattle.rr_eval.specs.Within.{Reach, reach, IsReached, IsAskedReached, AreReached, AreVariablesReached};
@@ -51,21 +53,22 @@ fn too_many(given: usize, most: usize) -> Problem
     })
 }
 
-/// The message that `initialize` of an object of a kind is given, where it is given one, or why it cannot be called: that of an
+/// The message that `initialize` of an object of a kind is given, nil for none, where it takes one, or why it cannot be called: that of an
 /// exception takes a message, any other nothing.
 fn message_given(kind: Kind, values: &[Ref], last: Option<Ref>) -> Result<Option<Ref>, Problem>
-    ensures message { IfOk result (λ m. IfSome m (λ w. (kind ≡ Kind.Exception) × (values.now ++ list_of last ≡ w ∷ []))) }
-    ensures none { IfOk result (λ m. m ≡ None → values.now ++ list_of last ≡ []) }
+    ensures message { IfOk result (λ m. IfSome m (λ w. (c : Context) (v : Ref) → initialize_above c kind v (values.now ++ list_of last) ≡ with_message c v w)) }
+    ensures none { IfOk result (λ m. m ≡ None → (c : Context) (v : Ref) → initialize_above c kind v (values.now ++ list_of last) ≡ Ret (Answers.Gave Ref.Nil)) }
     ensures refused { IfErr result (λ e. (c : Context) (v : Ref) → initialize_above c kind v (values.now ++ list_of last) ≡ throw c e) }
     ensures within { (k : Reach) → All (IsReached k) values.now → All (IsReached k) (list_of last) → IfOk result (λ m. IfSome m (IsReached k)) }
 {
     let given = count_of(Passing::All, values, last);
-    if given == 0 {
-        return Ok(None);
-    }
-    match (kind, single(Passing::All, values, last)) {
-        (Kind::Exception, Some(message)) => Ok(Some(message)),
-        (Kind::Exception, None) => Err(too_many(given, 1)),
+    match (kind, given) {
+        (Kind::Exception, 0) => Ok(Some(Ref::Nil)),
+        (Kind::Exception, _) => match single(Passing::All, values, last) {
+            Some(message) => Ok(Some(message)),
+            None => Err(too_many(given, 1)),
+        },
+        (_, 0) => Ok(None),
         (_, _) => Err(too_many(given, 0)),
     }
 }
