@@ -17,7 +17,7 @@ use Rattle.rr_eval.specs.declared.frame.Control.TheVariants.{Give, New}
 use Rattle.rr_eval.specs.declared.frame.Frame.{Frame}
 use Rattle.rr_eval.specs.declared.frame.Frame.TheVariants.{Initialize}
 use Rattle.rr_eval.specs.declared.frame.Making.{Making}
-use Rattle.rr_eval.specs.declared.initializers.Initializer.{Initializer}
+use Rattle.rr_eval.specs.declared.instances.Initializer.{Initializer}
 use Rattle.rr_eval.specs.declared.problem.Answer.TheVariants.{Gave}
 use Rattle.rr_eval.specs.declared.problem.Response.TheVariants.{Gives}
 use Rattle.rr_eval.specs.Acts.{Passes}

@@ -4,26 +4,27 @@ use Rattle.std.specs.Option.{option_map}
 use Rattle.std.proofs.lemmas.Option.{slice_get_within}
 use Rattle.rr_eval.specs.declared.asking.Saying.TheVariants.{Text}
 use Rattle.rr_eval.specs.declared.call.Callee.{Callee}
-use Rattle.rr_eval.specs.declared.initializers.Initializer.{Initializer}
+use Rattle.rr_eval.specs.declared.instances.Instances.{Instances}
 use Rattle.rr_eval.specs.declared.plain_methods.PlainMethod.{PlainMethod}
 use Rattle.rr_space.proofs.Hands.{append_cases}
 use Rattle.rr_eval.specs.Context.{Context}
 use Rattle.rr_base.specs.declared.name.Sym.{Sym}
 use Rattle.rr_base.specs.declared.name.ClassId.{ClassId}
+use Rattle.rr_base.specs.declared.name.TheConstants.ClassId.{CLASS}
 use Rattle.rr_builtin.specs.Kinds.{is_array_kind}
 use Rattle.rr_space.specs.Kinds.{class_at, kind_at}
 use Rattle.rr_space.specs.Tables.{Table}
 use Rattle.rr_space.specs.declared.kind.Kind.TheVariants.{Object}
 use Rattle.rr_space.specs.declared.refer.Ref.{Ref}
-use Rattle.rr_space.specs.declared.refer.Ref.TheVariants.{Local}
+use Rattle.rr_space.specs.declared.refer.Ref.TheVariants.{Class, Local}
 use Rattle.rr_tree.specs.declared.method_table.MethodName.TheVariants.{Plain}
 use Rattle.rr_eval.specs.declared.call.Callee.TheVariants.{Name}
 use Rattle.rr_eval.specs.Callees.{method_of}
-use Rattle.rr_eval.specs.Dispatch.{comes_first, initializer, is_below, iteration_of, method_for, unless_below}
+use Rattle.rr_eval.specs.Dispatch.{comes_first, is_below, iteration_of, method_for, unless_below}
 use Rattle.rr_eval.specs.Methods.{Callable, method_in}
 use Rattle.rr_eval.specs.RactorMethods.{ractor_method}
 use Rattle.rr_eval.specs.Joins.{joined_by, joins}
-use Rattle.rr_eval.specs.Prepared.{AreInitializers, ArePlain, IsLocal, callable_of, initializer_of, plain_method}
+use Rattle.rr_eval.specs.Prepared.{AreInstances, AreKnown, ArePlain, IsLocal, callable_of, plain_method}
 use Rattle.rr_eval.specs.Speaking.{symbol_asked}
 
 -- one entry more
@@ -44,9 +45,9 @@ entry_more P found d n at are is x f e =
 pub plain_more : (c : Context) (found : List PlainMethod) (d : PlainMethod) (n : ℕ) → length found ≡ n → ArePlain c found → option_map (callable_of c.program.nodes.items) d.definition ≡ plain_method c d.class (record { 0 = n }) → ArePlain c (found ++ d ∷ [])
 plain_more c found d n at are is = entry_more (λ x f. option_map (callable_of c.program.nodes.items) f.definition ≡ plain_method c f.class (record { 0 = x })) found d n at are is
 
--- one `initialize` more
-pub initializer_more : (c : Context) (found : List (Option Initializer)) (d : Option Initializer) (n : ℕ) → length found ≡ n → AreInitializers c found → option_map (initializer_of c.program.nodes.items) d ≡ initializer c (record { 0 = n }) → AreInitializers c (found ++ d ∷ [])
-initializer_more c found d n at are is = entry_more (λ k f. option_map (initializer_of c.program.nodes.items) f ≡ initializer c (record { 0 = k })) found d n at are is
+-- one class more
+pub instances_more : (c : Context) (known : List Instances) (i : Instances) (n : ℕ) → length known ≡ n → AreKnown c known → AreInstances c (record { 0 = n }) i → AreKnown c (known ++ i ∷ [])
+instances_more c known i n at are is = entry_more (λ k j. AreInstances c (record { 0 = k }) j) known i n at are is
 
 -- nothing more
 or_none : (b : Bool) → b || false ≡ b
@@ -71,3 +72,7 @@ plain_found c t _ k x f own kind class is = absurd own
 -- a plain object is no array that is joined
 pub plain_joins : (c : Context) (t : Table) (v : Ref) (callee : Callee) → kind_at t v ≡ Object → joined_by c t callee v ≡ None
 plain_joins c t v callee kind = ap (λ k. if is_array_kind k && joins (method_of c callee) then symbol_asked c Text else None) kind
+
+-- a class finds no method of the program where none of Class has the name
+pub class_finds : (c : Context) (t : Table) (k : ClassId) (x : Sym) → method_in c.program CLASS (Plain x) ≡ None → method_for c t (Class k) (Name x) ≡ None
+class_finds c t k x none = ap (unless_below (comes_first c t (Class k) (Name x))) none

@@ -1,11 +1,13 @@
 -- What a prepared program knows of its methods.
-use Rattle.std.specs.Prelude.{◌≡◌, ℕ, List, Option, Some, codes, slice_get}
+use Rattle.std.specs.Prelude.{◌≡◌, ℕ, List, Option, None, Some, codes, slice_get}
 use Rattle.std.specs.Option.{option_map}
 use Rattle.rr_base.specs.declared.name.Sym.{Sym}
 use Rattle.rr_base.specs.declared.name.ClassId.{ClassId}
+use Rattle.rr_base.specs.declared.name.TheConstants.ClassId.{CLASS}
+use Rattle.rr_builtin.specs.News.{is_exception_class}
 use Rattle.rr_space.specs.declared.kind.Kind.TheVariants.{Object}
 use Rattle.rr_space.specs.declared.refer.Ref.{Ref}
-use Rattle.rr_space.specs.declared.refer.Ref.TheVariants.{Local}
+use Rattle.rr_space.specs.declared.refer.Ref.TheVariants.{Class, Local}
 use Rattle.rr_tree.specs.declared.method_table.MethodName.TheVariants.{Plain}
 use Rattle.rr_tree.specs.Methods.{number_in, symbol_named}
 use Rattle.std.proofs.Props.{props}
@@ -13,7 +15,8 @@ use Rattle.rr_tree.specs.Sets.{Tree-set}
 use Rattle.rr_tree.specs.Tree.{tree_at}
 use Rattle.rr_tree.specs.declared.node.Node.{Node}
 use Rattle.rr_tree.specs.declared.program.Program.{Program}
-use Rattle.rr_eval.specs.declared.initializers.Initializer.{Initializer}
+use Rattle.rr_eval.specs.declared.instances.Initializer.{Initializer}
+use Rattle.rr_eval.specs.declared.instances.Instances.{Instances}
 use Rattle.rr_eval.specs.declared.invoke.Way.{Way as Called}
 use Rattle.rr_eval.specs.declared.operator_symbols.OperatorSymbols.{OperatorSymbols}
 use Rattle.rr_eval.specs.declared.plain_methods.PlainMethod.{PlainMethod}
@@ -25,7 +28,7 @@ use Rattle.rr_eval.specs.Blocks.{Way}
 use Rattle.rr_eval.specs.declared.call.Callee.TheVariants.{Name}
 use Rattle.rr_eval.specs.Callees.{method_of as built_in_of}
 use Rattle.rr_eval.specs.Context.{Context}
-use Rattle.rr_eval.specs.Dispatch.{initializer, is_below, iteration_of, unless_below}
+use Rattle.rr_eval.specs.Dispatch.{initializer, is_below, iteration_of, made_by, unless_below}
 use Rattle.rr_eval.specs.Methods.{Method, Work, Runs, Reads, Writes, NoWork, Callable, method_in}
 
 abbrev pub method_of : List Node → Body → Method
@@ -82,9 +85,25 @@ ArePlain c found = (x : ℕ) (f : PlainMethod) → slice_get found x ≡ Some f 
 pub ArePlain-prop : (c : Context) (found : List PlainMethod) → IsProp (ArePlain c found)
 ArePlain-prop c found = Prim.hlevel (props, Tree-set)
 
--- the program's `initialize` for the objects of classes, by the numbers of the classes
-abbrev pub AreInitializers : Context → List (Option Initializer) → Type 0
-AreInitializers c found = (k : ℕ) (f : Option Initializer) → slice_get found k ≡ Some f → option_map (initializer_of c.program.nodes.items) f ≡ initializer c (record { 0 = k })
+-- a call of a class by a name makes a new object that gets the program's `initialize`, and no method of the program is found before
+abbrev pub IsMaker : Context → ClassId → Sym → Type 0
+IsMaker c k x = (method_in c.program CLASS (Plain x) ≡ None) × (made_by c (built_in_of c (Name x)) (Class k) ≡ Some k)
 
-pub AreInitializers-prop : (c : Context) (found : List (Option Initializer)) → IsProp (AreInitializers c found)
-AreInitializers-prop c found = Prim.hlevel (props, Tree-set)
+abbrev pub IsMakerOf : Context → ClassId → Option Sym → Type 0
+IsMakerOf c k None = Unit {0}
+IsMakerOf c k (Some x) = IsMaker c k x
+
+IsMakerOf-prop : (c : Context) (k : ClassId) (x : Option Sym) → IsProp (IsMakerOf c k x)
+IsMakerOf-prop c k None = Prim.hlevel props
+IsMakerOf-prop c k (Some x) = Prim.hlevel (props, Tree-set)
+
+-- what is known of the new objects of a class holds
+abbrev pub AreInstances : Context → ClassId → Instances → Type 0
+AreInstances c k i = (option_map (initializer_of c.program.nodes.items) i.initializer ≡ initializer c k) × (i.exceptions ≡ is_exception_class c.program k.0) × IsMakerOf c k i.maker
+
+-- and of those of classes, by the numbers of the classes
+abbrev pub AreKnown : Context → List Instances → Type 0
+AreKnown c known = (k : ℕ) (i : Instances) → slice_get known k ≡ Some i → AreInstances c (record { 0 = k }) i
+
+pub AreKnown-prop : (c : Context) (known : List Instances) → IsProp (AreKnown c known)
+AreKnown-prop c known = Prim.hlevel (props, Tree-set, IsMakerOf-prop)

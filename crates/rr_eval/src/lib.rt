@@ -30,7 +30,7 @@ mod getting;
 mod globals;
 mod hash;
 mod hearing;
-mod initializers;
+mod instances;
 mod invoke;
 mod iterating;
 mod iterations;

@@ -61,21 +61,21 @@ pub fn make_plain(alloc: Global, space: &mut Space, class: ClassId) -> Result<Re
 fn make_object(
     alloc: Global,
     space: &mut Space,
-    program: &Program,
+    prepared: &Prepared,
     class: ClassId,
     cause: Ref,
 ) -> Result<Ref, Fault>
     requires cause { IsWithin (length space.old.slots) cause }
     ensures name { IfOk result (λ object. object ≡ Ref.Local (length space.old.slots)) }
-    ensures made { IfOk result (λ _. space.new ≡ with_new (context_of program.now) class cause space.old) }
+    ensures made { IfOk result (λ _. space.new ≡ with_new (context_of prepared.now.program) class cause space.old) }
     ensures read { (below : Below) → IsReadWith space.old below → IsRefAmong below cause → IsReadWith space.new below }
     ensures kept { IfErr result (λ _. space.new ≡ space.old) }
     ensures refused { IfErr result IsRefusal }
     ensures limit { space.new.limit ≡ space.old.limit }
     ensures changed { Changes space.old space.new }
-    ensures full { IfErr result (λ f. Passes f space.old.limit (length (with_new (context_of program.now) class cause space.old).slots)) }
+    ensures full { IfErr result (λ f. Passes f space.old.limit (length (with_new (context_of prepared.now.program) class cause space.old).slots)) }
 {
-    if program.descends(class, ClassId::EXCEPTION) {
+    if prepared.makes_exceptions(class) {
         make_exception(alloc, space, class, Ref::Nil, cause)
     } else {
         make_plain(alloc, space, class)
@@ -264,7 +264,7 @@ impl Engine {
         ensures changed { Changes space.old space.new }
         ensures full { IfErr result (λ f. (h : Course) → Adds h.world → Passes f space.old.limit (objects_of (remaining prepared.now.program (view_of self.old) space.old h))) }
     {
-        let object = match make_object(self.alloc, space, &prepared.program, class, cause) {
+        let object = match make_object(self.alloc, space, prepared, class, cause) {
             Ok(object) => object,
             Err(fault) => return Err(fault),
         };

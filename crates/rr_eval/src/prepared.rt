@@ -8,15 +8,17 @@ ghost use Rattle.rr_tree.specs.Methods.{IsTableOf, number_in, symbol_named};
 ghost use Rattle.rr_tree.specs.Sets.{IsTableOf-prop};
 ghost use Rattle.rr_builtin.specs.Iterations.{iteration_named};
 ghost use Rattle.rr_builtin.specs.Methods.{method_named};
+ghost use Rattle.rr_builtin.specs.News.{is_exception_class};
 ghost use Rattle.rr_space.specs.Kinds.{kind_at};
 ghost use Rattle.rr_eval.specs.Callees.{has_built_in, method_of};
 ghost use Rattle.rr_eval.specs.declared.call.Callee.{Callee as Called};
 ghost use Rattle.rr_eval.specs.Dispatch.{called_name, is_below, comes_first, iteration_of, method_called, method_for, initializer, made_by};
+ghost use Rattle.rr_eval.specs.Joins.{joined_by};
 ghost use Rattle.rr_eval.specs.Methods.{method_in};
 ghost use Rattle.rr_eval.specs.RaisingNew.{initialized_class, class_raised};
 ghost use Rattle.rr_base.specs.declared.name.TheConstants.ClassId.{OBJECT};
 ghost use Rattle.rr_space.specs.declared.kind.Kind.{Kind as Kinds};
-ghost use Rattle.rr_eval.specs.Prepared.{AreInitializers, AreInitializers-prop, AreSymbolsOf, ArePlain, ArePlain-prop, callable_of, initializer_of};
+ghost use Rattle.rr_eval.specs.Prepared.{AreInstances, AreKnown, AreKnown-prop, AreSymbolsOf, ArePlain, ArePlain-prop, callable_of, initializer_of};
 ghost use Rattle.rr_eval.specs.Nodes.{AreEvaluated, AreEvaluated-prop, evaluated_tree, IsEvaluated};
 ghost use Rattle.rr_eval.specs.SimpleParts.{AreSimple, AreSimple-prop, IsSimple, links_of};
 ghost use Rattle.rr_eval.specs.Speaking.{symbol_asked};
@@ -26,7 +28,7 @@ use crate::asking::Saying;
 use crate::call::Callee;
 use crate::chains::{Chain, Link};
 use crate::evaluated_nodes::evaluated_nodes;
-use crate::initializers::{Initializer, initializer_of, initializers};
+use crate::instances::{Initializer, Instances, initializer_of, known_instances};
 use crate::operator_symbols::OperatorSymbols;
 use crate::plain_methods::{
     PlainMethod, definition_in, is_below, is_plain, method_called, plain_methods,
@@ -87,8 +89,8 @@ pub struct Prepared {
     pub(crate) iterations: Iterations,
     /// The methods that calls of plain objects find, by the numbers of their names.
     plain: Vec<PlainMethod>,
-    /// The program's `initialize` for the objects of the first classes, by their numbers.
-    initializers: Vec<Option<Initializer>>,
+    /// What is known of the new objects of the first classes, by the numbers of these.
+    instances: Vec<Instances>,
     /// The nodes that are evaluated at its places, by these.
     nodes: Vec<Node>,
     /// What its parts are.
@@ -100,7 +102,7 @@ pub struct Prepared {
     ghost names: { methods ≡ map (λ s. method_named s.items) program.symbols.items },
     ghost iterates: { iterations ≡ map (λ s. iteration_named s.items) program.symbols.items },
     ghost plains: { ArePlain (context_of program) plain.items } by { ArePlain-prop (context_of program) plain.items },
-    ghost initializes: { AreInitializers (context_of program) initializers.items } by { AreInitializers-prop (context_of program) initializers.items },
+    ghost knows: { AreKnown (context_of program) instances.items } by { AreKnown-prop (context_of program) instances.items },
     ghost evaluates: { AreEvaluated program.nodes.items nodes.items } by { AreEvaluated-prop program.nodes.items nodes.items },
     ghost simples: { AreSimple program simple.links.items simple.parts.items } by { AreSimple-prop program simple.links.items simple.parts.items },
 }
@@ -117,7 +119,7 @@ impl Prepared {
         let methods = Methods::of(alloc, &program)?;
         let iterations = Iterations::of(alloc, &program)?;
         let plain = plain_methods(alloc, &program, &table, &methods, &iterations)?;
-        let initializers = initializers(alloc, &program, &table, &operators)?;
+        let instances = known_instances(alloc, &program, &table, &operators, &methods)?;
         let nodes = evaluated_nodes(alloc, &program)?;
         let simple = simple_parts(alloc, &program, &plain)?;
         Ok(Prepared {
@@ -129,7 +131,7 @@ impl Prepared {
             methods,
             iterations,
             plain,
-            initializers,
+            instances,
             nodes,
             simple,
         })
@@ -329,14 +331,52 @@ impl Prepared {
         method_of(&self.program, &self.methods, callee)
     }
 
+    /// What is known beforehand of the new objects of a class.
+    #[inline(always)]
+    fn known(&self, class: ClassId) -> Option<&Instances>
+        ensures { IfSome result (λ i. AreInstances (context_of self.now.program) class i.now) }
+    {
+        match self.instances.get(class.0 as usize) {
+            Some(known) => Some(known),
+            None => None,
+        }
+    }
+
     /// The program's `initialize` for the objects of a class.
     #[inline(always)]
     pub(crate) fn initializer(&self, class: ClassId) -> Option<Initializer>
         ensures { option_map (initializer_of self.now.program.nodes.items) result ≡ initializer (context_of self.now.program) class }
     {
-        match self.initializers.get(class.0 as usize) {
-            Some(found) => *found,
+        match self.known(class) {
+            Some(known) => known.initializer,
             None => initializer_of(&self.program, &self.table, &self.operators, class),
+        }
+    }
+
+    /// Whether the objects of a class are exceptions.
+    #[inline(always)]
+    pub(crate) fn makes_exceptions(&self, class: ClassId) -> bool
+        ensures { result ≡ is_exception_class self.now.program class.0 }
+    {
+        match self.known(class) {
+            Some(known) => known.exceptions,
+            None => self.program.descends(class, ClassId::EXCEPTION),
+        }
+    }
+
+    /// The class whose new object a call of a receiver by a name makes, where the object gets the program's `initialize`; none where the
+    /// call may do something else.
+    pub(crate) fn class_made(&self, space: &Space, receiver: Ref, name: Sym) -> Option<ClassId>
+        ensures method { IfSome result (λ _. method_for (context_of self.now.program) space.now receiver (Called.Name name) ≡ None) }
+        ensures joins { IfSome result (λ _. joined_by (context_of self.now.program) space.now (Called.Name name) receiver ≡ None) }
+        ensures made { IfSome result (λ k. made_by (context_of self.now.program) (method_of (context_of self.now.program) (Called.Name name)) receiver ≡ Some k) }
+    {
+        let Ref::Class(class) = receiver else {
+            return None;
+        };
+        match self.known(class)?.maker {
+            Some(maker) if maker.0 == name.0 => Some(class),
+            _ => None,
         }
     }
 

@@ -1,6 +1,6 @@
 //! New objects whose making begins in a usual way: with arguments that need no frame, where they take no memory.
 
-ghost use Rattle.std.specs.Prelude.{◌≡◌, ◌+◌, ◌*◌, ◌<◌, ◌≤◌, ◌^◌, ℕ, [], ◌∷◌, length, reverse, take, vec_capacity, Option, None, Some, IfSome, IsTrue, IsFalse};
+ghost use Rattle.std.specs.Prelude.{◌≡◌, ◌+◌, ◌*◌, ◌<◌, ◌≤◌, ◌^◌, ℕ, [], ◌∷◌, length, reverse, take, vec_capacity, Option, None, Some, IsTrue, IsFalse};
 ghost use Rattle.std.specs.Option.{option_map};
 ghost use Rattle.rr_space.specs.Tables.{Below, Table};
 ghost use Rattle.rr_tree.specs.Nodes.{trees_before};
@@ -30,25 +30,6 @@ use crate::usual::Quick;
 use rr_base::{ClassId, Sym};
 use rr_space::{Ref, Space};
 use rr_tree::NodeId;
-
-impl Prepared {
-    /// The class whose new object a call makes, which gets the program's `initialize`; none where the call may do something else.
-    fn class_made(&self, space: &Space, receiver: Ref, name: Sym) -> Option<ClassId>
-        ensures method { IfSome result (λ _. method_for (context_of self.now.program) space.now receiver (Called.Name name) ≡ None) }
-        ensures joins { IfSome result (λ _. joined_by (context_of self.now.program) space.now (Called.Name name) receiver ≡ None) }
-        ensures made { IfSome result (λ k. made_by (context_of self.now.program) (method_of (context_of self.now.program) (Called.Name name)) receiver ≡ Some k) }
-    {
-        let callee = Callee::Name(name);
-        let class = self.made_by(receiver, callee)?;
-        if self.joined_by(space, receiver, callee).is_some() {
-            return None;
-        }
-        match self.method_looked_up(space, receiver, callee) {
-            Some(_) => None,
-            None => Some(class),
-        }
-    }
-}
 
 impl Engine {
     /// Makes a new object of a class next, which gets the program's `initialize` with the values that are held for it.
