@@ -1,5 +1,5 @@
 -- Operators one after the other, and where their links lie.
-use Rattle.std.proofs.Common.{◌≡◌, ℕ, ◌+◌, ◌-◌, ◌≤◌, ◌∙◌, ap, refl, sym, arith, List, [], ◌∷◌, ◌++◌, length, take, drop, get_or, false}
+use Rattle.std.proofs.Common.{◌≡◌, ℕ, ◌+◌, ◌-◌, ◌<◌, ◌≤◌, ◌∙◌, ap, refl, sym, arith, List, [], ◌∷◌, ◌++◌, length, take, drop, get_or, false}
 use Rattle.std.proofs.lemmas.List.{drop-append-le, take-append-le, take_all, length-drop, length-append}
 use Rattle.rr_parser.specs.Grammar.Names.{is_splat}
 use Rattle.rr_tree.specs.Tree.{Tree, binary, tree_at}
@@ -10,7 +10,7 @@ use Rattle.rr_eval.specs.declared.simple_parts.ApartPart.{ApartPart}
 use Rattle.rr_eval.specs.declared.simple_parts.ApartPart.TheVariants as apart
 use Rattle.rr_eval.specs.declared.simple_parts.SimplePart.{SimplePart}
 use Rattle.rr_eval.specs.declared.simple_parts.SimplePart.TheVariants.{Variable, Int, WithInt, WithVariable, Value, Itself, Apart, Other}
-use Rattle.rr_eval.specs.SimpleParts.{AreSimple, IsApart, IsSimple, IsChain, IsLinked, linked, links_of}
+use Rattle.rr_eval.specs.SimpleParts.{AreSimple, IsApart, IsSimple, IsChain, IsLinked, linked, links_of, longest}
 
 -- the first of some links, and the others
 pub front : (links : List Link) (none : Link) → 1 ≤ length links → links ≡ get_or links 0 none ∷ take (length links - 1) (drop 1 links)
@@ -39,7 +39,7 @@ chain_wider : (p : Program) (links : List Link) (l : Link) (chain : Chain) (tree
 chain_wider p links l chain tree is =
     let there = is.1.0 in
     let longer : length (links ++ l ∷ []) ≡ length links + 1 = length-append links (l ∷ []) in
-    (is.0, (omega (arith, there, longer), ap (linked p (tree_at p.nodes.items chain.first)) (links_wider links l chain there) ∙ is.1.1))
+    (is.0, (omega (arith, there, longer), ap (linked p (tree_at p.nodes.items chain.first)) (links_wider links l chain there) ∙ is.1.1), is.2)
 
 apart_wider : (p : Program) (links : List Link) (l : Link) (tree : Tree) (a : ApartPart) → IsApart p links tree a → IsApart p (links ++ l ∷ []) tree a
 apart_wider p links l tree (apart.Chain chain) is = chain_wider p links l chain tree is
@@ -73,8 +73,8 @@ links_longer links l from count ends =
     ap (take (count + 1)) (drop-append-le from links (l ∷ []) start) ∙ ap (λ n. take n (drop from links ++ l ∷ [])) longer ∙ take_all (length (drop from links ++ l ∷ [])) (drop from links ++ l ∷ []) (omega arith) ∙ ap (λ xs. xs ++ l ∷ []) (sym all)
 
 -- a chain and an operator behind it
-pub chain_longer : (p : Program) (links : List Link) (chain : Chain) (l : Link) (tree : Tree) → IsLinked p links chain tree → chain.from + chain.count ≡ length links → IsChain p (links ++ l ∷ []) (record chain { count = chain.count + 1 }) (binary l.op tree (tree_at p.nodes.items l.right))
-chain_longer p links chain l tree is ends =
+pub chain_longer : (p : Program) (links : List Link) (chain : Chain) (l : Link) (tree : Tree) → IsLinked p links chain tree → chain.count < longest → chain.from + chain.count ≡ length links → IsChain p (links ++ l ∷ []) (record chain { count = chain.count + 1 }) (binary l.op tree (tree_at p.nodes.items l.right))
+chain_longer p links chain l tree is short ends =
     let longer : length (links ++ l ∷ []) ≡ length links + 1 = length-append links (l ∷ []) in
     let first = tree_at p.nodes.items chain.first in
-    (omega arith, (omega (arith, ends, longer), ap (linked p first) (links_longer links l chain.from chain.count ends) ∙ linked_more p first (links_of links chain) l ∙ ap (λ t. binary l.op t (tree_at p.nodes.items l.right)) is.1))
+    (omega arith, (omega (arith, ends, longer), ap (linked p first) (links_longer links l chain.from chain.count ends) ∙ linked_more p first (links_of links chain) l ∙ ap (λ t. binary l.op t (tree_at p.nodes.items l.right)) is.1), omega (arith, short))

@@ -62,9 +62,13 @@ links_of links chain = take chain.count (drop chain.from links)
 abbrev pub IsLinked : Program → List Link → Chain → Tree → Type 0
 IsLinked p links chain tree = (chain.from + chain.count ≤ length links) × (linked p (tree_at p.nodes.items chain.first) (links_of links chain) ≡ tree)
 
--- a chain has links, and does so
+-- the most links of a chain: what is done at once has few steps
+abbrev pub longest : ℕ
+longest = 7
+
+-- a chain has links, no more than that, and does so
 abbrev pub IsChain : Program → List Link → Chain → Tree → Type 0
-IsChain p links chain tree = (0 < chain.count) × IsLinked p links chain tree
+IsChain p links chain tree = (0 < chain.count) × IsLinked p links chain tree × (chain.count ≤ longest)
 
 -- the variable, and the name, of a call without arguments of what a variable holds
 abbrev pub named_operand : SimplePart → ℕ → Option (Local × ℕ)

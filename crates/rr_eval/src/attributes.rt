@@ -78,29 +78,29 @@ pub fn attribute_of(prepared: &Prepared, space: &Space, receiver: Ref, name: Sym
 impl Engine {
     /// What a part reads, and how many steps that takes.
     #[inline(always)]
-    pub fn read_apart(&self, prepared: &Prepared, space: &Space, apart: ApartPart) -> Option<Quick>
-        ensures takes { (links : List Link) (tree : Tree) → IsApart prepared.now.program links tree apart → IfSome result (λ q. TakesNow prepared.now.program (view_of self.now) space.now tree q.steps q.value) }
-        ensures plain { (links : List Link) (tree : Tree) → IsApart prepared.now.program links tree apart → IfSome result (λ _. is_splat tree ≡ false) }
+    pub fn read_apart(&self, prepared: &Prepared, space: &Space, apart: &ApartPart) -> Option<Quick>
+        ensures takes { (links : List Link) (tree : Tree) → IsApart prepared.now.program links tree apart.now → IfSome result (λ q. TakesNow prepared.now.program (view_of self.now) space.now tree q.steps q.value) }
+        ensures plain { (links : List Link) (tree : Tree) → IsApart prepared.now.program links tree apart.now → IfSome result (λ _. is_splat tree ≡ false) }
         ensures some { IfSome result (λ q. 0 < q.steps) }
         ensures few { IfSome result (λ q. q.steps ≤ 2) }
         ensures within { (clusters : Option Below) → AreReached (reach (length space.now.slots) clusters) (view_of self.now) → IfSome result (λ q. IsReached (reach (length space.now.slots) clusters) q.value) }
     {
         match apart {
-            ApartPart::Field(name) => match field_of(space, self.itself(), name) {
+            ApartPart::Field(name) => match field_of(space, self.itself(), *name) {
                 Some(value) => Some(Quick { value, steps: 1 }),
                 None => None,
             },
             ApartPart::Attribute(variable, name) => {
-                match attribute_of(prepared, space, self.variable(variable), name) {
+                match attribute_of(prepared, space, self.variable(*variable), *name) {
                     Some(value) => Some(Quick { value, steps: 2 }),
                     None => None,
                 }
             }
-            ApartPart::Global(name) => match global_of(space, name) {
+            ApartPart::Global(name) => match global_of(space, *name) {
                 Some(value) => Some(Quick { value, steps: 1 }),
                 None => None,
             },
-            ApartPart::Constant(name, class) => match constant_of(space, name, class) {
+            ApartPart::Constant(name, class) => match constant_of(space, *name, *class) {
                 Some(value) => Some(Quick { value, steps: 1 }),
                 None => None,
             },

@@ -103,7 +103,7 @@ impl Engine {
         ensures within { (clusters : Option Below) → AreReached (reach (length space.now.slots) clusters) (view_of self.now) → IfSome result (λ q. IsReached (reach (length space.now.slots) clusters) q.value) }
     {
         match prepared.part(place) {
-            Some(&SimplePart::Apart(apart)) => self.read_apart(prepared, space, apart),
+            Some(SimplePart::Apart(apart)) => self.read_apart(prepared, space, apart),
             _ => self.quick_simple(prepared, place),
         }
     }
@@ -147,9 +147,6 @@ impl Engine {
         ensures within { (clusters : Option Below) → AreReached (reach (length space.now.slots) clusters) (view_of self.now) → IfSome result (λ q. IsReached (reach (length space.now.slots) clusters) q.value) }
     {
         let mut links = prepared.links(chain)?;
-        if links.len() > LONGEST as usize {
-            return None;
-        }
         let mut found = self.operand(prepared, space, chain.first)?;
         while let [link, more @ ..] = links {
             let link = *link;
@@ -170,10 +167,10 @@ impl Engine {
         ensures within { (clusters : Option Below) → AreReached (reach (length space.now.slots) clusters) (view_of self.now) → IfSome result (λ q. IsReached (reach (length space.now.slots) clusters) q.value) }
     {
         match prepared.part(place) {
-            Some(&SimplePart::Apart(ApartPart::Chain(chain))) => {
-                self.chained(prepared, space, place, chain)
-            }
-            Some(&SimplePart::Apart(apart)) => self.read_apart(prepared, space, apart),
+            Some(SimplePart::Apart(apart)) => match apart {
+                ApartPart::Chain(chain) => self.chained(prepared, space, place, *chain),
+                _ => self.read_apart(prepared, space, apart),
+            },
             _ => None,
         }
     }

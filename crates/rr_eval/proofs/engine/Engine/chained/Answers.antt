@@ -1,5 +1,6 @@
 -- Each link goes on from what those before it give.
-use Rattle.std.proofs.Common.{◌≡◌, ◌∙◌, ap, sym, subst, arith, length, get_or, false}
+use Rattle.std.proofs.Common.{◌≡◌, ◌∙◌, ap, sym, subst, arith, length, drop, get_or, false}
+use Rattle.std.proofs.lemmas.List.{length-take}
 use Rattle.rr_parser.specs.Grammar.Names.{is_splat}
 use Rattle.rr_tree.specs.Tree.{binary, tree_at}
 use Rattle.rr_tree.specs.declared.node.BinaryOperator.TheVariants.{Add}
@@ -14,12 +15,13 @@ loop-links-init c =
     let p = c.args.prepared.now.program in
     let first = tree_at p.nodes.items c.args.chain.first in
     let links = c.in_ok-links.links.now in
+    let count = ap length c.in_ok-links.ensures ∙ length-take c.args.chain.count (drop c.args.chain.from c.args.prepared.now.simple.links.items) in
     let ends = ap (linked p first) c.in_ok-links.ensures ∙ c.requires.1.1 in
     record {
       takes = (first, c.in_ok-found.ensures.takes, ends);
       plain = subst (λ t. is_splat t ≡ false) ends (linked_plain p first links c.in_ok-found.ensures.plain);
       some = c.in_ok-found.ensures.some;
-      few = omega (arith, c.if-links.false, c.in_ok-found.ensures.few);
+      few = omega (arith, c.requires.2, count, c.in_ok-found.ensures.few);
       within = c.in_ok-found.ensures.within;
     }
 

@@ -10,15 +10,14 @@ chained-requires c =
     let p = c.args.prepared.now.program in
     let links = c.args.prepared.now.simple.links.items in
     let tree = tree_at p.nodes.items c.args.place in
-    let part = c.in-Some-Apart-Chain in
-    subst (IsApart p links tree) part.field-0-0-is (subst (IsSimple p links tree) part.field-0-is part.ensures)
+    subst (IsApart p links tree) c.in-Chain.is (subst (IsSimple p links tree) c.in-Some-Apart.field-0-is c.in-Some-Apart.ensures)
 
 few : (o : Option Quick) → IfSome o (λ q. q.steps ≤ 2) → IfSome o (λ q. q.steps ≤ 31)
 few (Some q) h = omega (arith, h)
 few None h = tt
 
-pub returns-in-Some-Apart : goal.returns-in-Some-Apart
-returns-in-Some-Apart c =
+pub returns-in_default-apart : goal.returns-in_default-apart
+returns-in_default-apart c =
     let p = c.args.prepared.now.program in
     let links = c.args.prepared.now.simple.links.items in
     let tree = tree_at p.nodes.items c.args.place in
