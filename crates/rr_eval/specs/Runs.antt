@@ -17,6 +17,7 @@ use Rattle.rr_parser.specs.Fronts.{NestsBeyond}
 use Rattle.rr_parser.specs.Words.{symbols_of, texts_of}
 use Rattle.rr_base.specs.declared.name.TheConstants.ClassId.{OBJECT}
 use Rattle.rr_space.specs.Tables.{Table}
+use Rattle.rr_space.specs.declared.refer.Ref.{Ref}
 use Rattle.rr_space.specs.declared.refer.Ref.TheVariants.{Local}
 use Rattle.rr_builtin.specs.Acts.{with_array, with_object}
 use Rattle.rr_builtin.specs.News.{new_plain}
@@ -65,6 +66,12 @@ IsRaised _ told = ⊥
 abbrev pub IsSpent : Outcome → Type 0
 IsSpent (Spent s) = Unit {0}
 IsSpent _ = ⊥
+
+-- an exception that nothing rescues is told; there may be no memory for that
+abbrev pub EndsRaised : Table → Ref → RunOutcome → Type 0
+EndsRaised t v (outcomes.Raised told) = IsTold t v told.items
+EndsRaised t v (outcomes.Stopped fault) = fault ≡ faults.Memory
+EndsRaised t v _ = ⊥
 
 -- What a run leaves of what a program means.
 abbrev pub Leaves : Context → Written → Written → Outcome → RunOutcome → Type 0

@@ -6,7 +6,10 @@ ghost use Rattle.rr_text.specs.Reads.{IsReadWith};
 ghost use Rattle.rr_builtin.specs.Methods.{method_named};
 ghost use Rattle.rr_eval.specs.Alone.{AloneBy, SpecialExceeds, special_of};
 ghost use Rattle.rr_eval.specs.Published.{published};
+ghost use Rattle.rr_eval.specs.Context.{Context};
 ghost use Rattle.rr_eval.specs.Requests.{asked_of};
+ghost use Rattle.rr_eval.specs.RactorMethods.{ractor_method};
+ghost use Rattle.rr_eval.specs.declared.call.Callee.{Callee as Called};
 ghost use Rattle.rr_eval.specs.declared.call.Arguments.{Arguments as Lists};
 ghost use Rattle.rr_eval.specs.declared.call.Task.{Task as Tasks};
 ghost use Rattle.rr_eval.specs.declared.request.Request.{Request as Requests};
@@ -22,7 +25,7 @@ use crate::print::Served;
 use crate::problem::Response;
 use crate::ractor_method::lacks_ractor_methods;
 use crate::request::Request;
-use crate::serve::{serve, serve_field, serve_own};
+use crate::serve::{serve, serve_call};
 use crate::setting::set_constant;
 use crate::special::{Special, special_of};
 use rr_base::{Fault, Sym};
@@ -32,10 +35,11 @@ use rr_store::StoreState;
 use rr_tree::Program;
 use std::alloc::Global;
 
-/// Serves a request of a script that runs alone, where it is none of the most frequent kind.
+/// Serves a request of a script that runs alone. A refused growth leaves the objects as they were, beside new ones to which nothing
+/// leads.
 #[cold]
 #[inline(never)]
-fn serve_apart(
+pub fn serve_alone(
     alloc: Global,
     space: &mut Space,
     store: &mut StoreState,
@@ -69,31 +73,6 @@ fn serve_apart(
             })
         }
     }
-}
-
-/// Serves a call of a script that runs alone. Most receivers have no method of Ractor.
-#[inline(always)]
-fn serve_called_alone(
-    alloc: Global,
-    space: &mut Space,
-    store: &mut StoreState,
-    program: &Program,
-    methods: &Methods,
-    call: Call,
-) -> Result<Served, Fault>
-    requires methods { methods.now ≡ map (λ s. method_named s.items) program.now.symbols.items }
-    requires read { IsReadWith space.old (published store.old) }
-    requires reached { IsRequestReached (reach (length space.old.slots) (Some (published store.old))) (Requests.Call call) }
-    ensures piece { IfOk result (λ served. served.piece.items ≡ piece_asked (context_of program.now) (asked_of space.old (Requests.Call call))) }
-    ensures replied { IfOk result (λ served. AloneBy (special_of (context_of program.now) (asked_of space.old (Requests.Call call)) space.old) (context_of program.now) store.old (asked_of space.old (Requests.Call call)) space.old served.response space.new store.new) }
-    ensures left { IfOk result (λ served. IsLeft (published store.new) space.old served.response space.new) }
-    ensures more { (e : ℕ × List Object) → Contains (published store.old) e → Contains (published store.new) e }
-    ensures refused { IfErr result (λ f. IsRefusedBy (SpecialExceeds (special_of (context_of program.now) (asked_of space.old (Requests.Call call)) space.old) (context_of program.now) store.old space.old.limit (asked_of space.old (Requests.Call call)) space.old) f) }
-{
-    if lacks_ractor_methods(call.receiver) {
-        return serve_own(alloc, space, store, program, methods, &call);
-    }
-    serve_apart(alloc, space, store, program, methods, Request::Call(call))
 }
 
 /// The object, its instance variable and the value that a request assigns, where it assigns one.
@@ -130,31 +109,42 @@ pub fn set_alone(
     write_field(space, store, object, name, value)
 }
 
-/// Serves a request of a script that runs alone. A refused growth leaves the objects as they were, beside new ones to which nothing
-/// leads.
+/// The call that a request is of, where no method of Ractor is one of its receiver.
 #[inline(always)]
-pub fn serve_alone(
-    alloc: Global,
-    space: &mut Space,
-    store: &mut StoreState,
-    program: &Program,
-    methods: &Methods,
-    request: Request,
-) -> Result<Served, Fault>
-    requires methods { methods.now ≡ map (λ s. method_named s.items) program.now.symbols.items }
-    requires read { IsReadWith space.old (published store.old) }
-    requires reached { IsRequestReached (reach (length space.old.slots) (Some (published store.old))) request }
-    ensures piece { IfOk result (λ served. served.piece.items ≡ piece_asked (context_of program.now) (asked_of space.old request)) }
-    ensures replied { IfOk result (λ served. AloneBy (special_of (context_of program.now) (asked_of space.old request) space.old) (context_of program.now) store.old (asked_of space.old request) space.old served.response space.new store.new) }
-    ensures left { IfOk result (λ served. IsLeft (published store.new) space.old served.response space.new) }
-    ensures more { (e : ℕ × List Object) → Contains (published store.old) e → Contains (published store.new) e }
-    ensures refused { IfErr result (λ f. IsRefusedBy (SpecialExceeds (special_of (context_of program.now) (asked_of space.old request) space.old) (context_of program.now) store.old space.old.limit (asked_of space.old request) space.old) f) }
+pub fn own_call(request: &Request) -> Option<&Call>
+    ensures { IfSome result (λ call. (request.now ≡ Requests.Call call.now) × ((c : Context) (callee : Called) → ractor_method c call.now.receiver callee ≡ None)) }
 {
     match request {
-        Request::Do(Task::SetField(name), Arguments::Two(object, value)) => {
-            serve_field(alloc, space, store, program, name, object, value)
+        Request::Call(call) => {
+            if lacks_ractor_methods(call.receiver) {
+                Some(call)
+            } else {
+                None
+            }
         }
-        Request::Call(call) => serve_called_alone(alloc, space, store, program, methods, call),
-        _ => serve_apart(alloc, space, store, program, methods, request),
+        _ => None,
     }
+}
+
+/// Calls a built-in method of a receiver that no method of Ractor has, as a script asks that runs alone: nothing is printed. A refused
+/// growth leaves the objects as they were.
+#[inline(always)]
+pub fn call_alone(
+    alloc: Global,
+    space: &mut Space,
+    store: &StoreState,
+    program: &Program,
+    methods: &Methods,
+    call: &Call,
+) -> Result<Response, Fault>
+    requires own { (c : Context) (callee : Called) → ractor_method c call.now.receiver callee ≡ None }
+    requires methods { methods.now ≡ map (λ s. method_named s.items) program.now.symbols.items }
+    requires read { IsReadWith space.old (published store.now) }
+    requires reached { IsRequestReached (reach (length space.old.slots) (Some (published store.now))) (Requests.Call call.now) }
+    ensures piece { piece_asked (context_of program.now) (asked_of space.old (Requests.Call call.now)) ≡ [] }
+    ensures replied { IfOk result (λ r. AloneBy (special_of (context_of program.now) (asked_of space.old (Requests.Call call.now)) space.old) (context_of program.now) store.now (asked_of space.old (Requests.Call call.now)) space.old r space.new store.now) }
+    ensures left { IfOk result (λ r. IsLeft (published store.now) space.old r space.new) }
+    ensures refused { IfErr result (λ f. IsRefusedBy (SpecialExceeds (special_of (context_of program.now) (asked_of space.old (Requests.Call call.now)) space.old) (context_of program.now) store.now space.old.limit (asked_of space.old (Requests.Call call.now)) space.old) f) }
+{
+    serve_call(alloc, space, store, program, methods, call)
 }

@@ -11,10 +11,10 @@ ghost use Rattle.rr_eval.specs.Counted.{failures, counted};
 ghost use Rattle.rr_eval.specs.Written.{written_to};
 ghost use Rattle.rr_eval.specs.Turns.{context_of, remaining};
 ghost use Rattle.rr_eval.specs.Within.{AreReached, AreWithin, reach};
-ghost use Rattle.rr_eval.specs.Runs.{Reads, IsRun, Meets, first_course, program_meaning};
+ghost use Rattle.rr_eval.specs.Runs.{EndsRaised, Reads, IsRun, Meets, first_course, program_meaning};
 ghost use Rattle.rr_eval.specs.Script.{World};
 
-use crate::alone::{assigned_field, serve_alone, set_alone};
+use crate::alone::{assigned_field, call_alone, own_call, serve_alone, set_alone};
 use crate::counted::Counted;
 use crate::engine::Turn;
 use crate::exception::report;
@@ -98,6 +98,16 @@ fn objects_fit(space: &Space)
     let _count = space.len();
 }
 
+/// How a run ends with an exception that nothing rescues.
+fn raised(alloc: Global, program: &Program, space: &Space, exception: Ref) -> Outcome
+    ensures { EndsRaised space.now exception result }
+{
+    match report(alloc, program, space, exception) {
+        Ok(told) => Outcome::Raised(told),
+        Err(_) => Outcome::Stopped(Fault::Memory),
+    }
+}
+
 /// Runs a machine that has a whole program still to do, in turns of so many steps. The limits are those of the program.
 fn run_machine<O: Output>(
     alloc: Global,
@@ -133,6 +143,13 @@ fn run_machine<O: Output>(
                     }
                     continue;
                 }
+                if let Some(call) = own_call(&request) {
+                    match call_alone(alloc, &mut space, &store, program, methods, call) {
+                        Ok(response) => machine.answer(response),
+                        Err(fault) => return Outcome::Stopped(fault),
+                    }
+                    continue;
+                }
                 match serve_alone(alloc, &mut space, &mut store, program, methods, request) {
                     Ok(served) => {
                         if !put(output, served.piece.as_slice()) {
@@ -144,12 +161,7 @@ fn run_machine<O: Output>(
                 }
             }
             Ok(Turn::Done(_)) => return Outcome::Done,
-            Ok(Turn::Raised(exception)) => {
-                return match report(alloc, program, &space, exception) {
-                    Ok(told) => Outcome::Raised(told),
-                    Err(_) => Outcome::Stopped(Fault::Memory),
-                };
-            }
+            Ok(Turn::Raised(exception)) => return raised(alloc, program, &space, exception),
             Ok(Turn::StepLimit) => return Outcome::StepLimit,
             Err(fault) => return Outcome::Stopped(fault),
         }

@@ -1,6 +1,6 @@
 //! Calls of methods, as an environment serves them. The store is given for its clusters, among which are all that the space leads to.
 
-ghost use Rattle.std.specs.Prelude.{◌≡◌, ◌∷◌, [], length, map, Some, Ok, Err, Result, if◌then◌else◌, IfOk, IfErr};
+ghost use Rattle.std.specs.Prelude.{◌≡◌, [], length, map, Some, Ok, Err, Result, if◌then◌else◌, IfOk, IfErr};
 ghost use Rattle.std.specs.List.{All};
 ghost use Rattle.rr_space.specs.Parts.{IsWithin};
 ghost use Rattle.rr_space.specs.Tables.{Below};
@@ -12,7 +12,6 @@ ghost use Rattle.rr_builtin.specs.Methods.{method_named};
 ghost use Rattle.rr_eval.specs.Callees.{method_of};
 ghost use Rattle.rr_eval.specs.Context.{Context};
 ghost use Rattle.rr_eval.specs.Calls.{sent, call_reply};
-ghost use Rattle.rr_eval.specs.declared.call.Callee.{Callee as Called};
 ghost use Rattle.rr_eval.specs.declared.call.Task.{Task as Tasks};
 ghost use Rattle.rr_eval.specs.Requests.{arguments_of, asked_of};
 ghost use Rattle.rr_eval.specs.Published.{published};
@@ -181,7 +180,7 @@ pub fn serve_method(
 
 /// Serves a call. A refused growth leaves the objects as they were.
 #[inline(always)]
-fn serve_call(
+pub fn serve_call(
     alloc: Global,
     space: &mut Space,
     store: &StoreState,
@@ -197,34 +196,6 @@ fn serve_call(
 {
     let method = method_of(program, methods, call.callee);
     serve_method(alloc, space, store, program, call, method)
-}
-
-/// Serves a call of a receiver that no method of Ractor has. A refused growth leaves the objects as they were.
-#[inline(always)]
-pub fn serve_own(
-    alloc: Global,
-    space: &mut Space,
-    store: &StoreState,
-    program: &Program,
-    methods: &Methods,
-    call: &Call,
-) -> Result<Served, Fault>
-    requires own { (c : Context) (callee : Called) → ractor_method c call.now.receiver callee ≡ None }
-    requires methods { methods.now ≡ map (λ s. method_named s.items) program.now.symbols.items }
-    requires read { IsReadWith space.old (published store.now) }
-    requires reached { IsCallReached (reach (length space.old.slots) (Some (published store.now))) call.now }
-    ensures piece { IfOk result (λ served. served.piece.items ≡ []) }
-    ensures replied { IfOk result (λ served. IsRequestReplied (context_of program.now) (published store.now) (Calls call.now.receiver call.now.callee (arguments_of call.now.arguments)) space.old served.response space.new) }
-    ensures left { IfOk result (λ served. IsLeft (published store.now) space.old served.response space.new) }
-    ensures refused { IfErr result (IsRequestRefused (context_of program.now) (published store.now) (Calls call.now.receiver call.now.callee (arguments_of call.now.arguments)) space.old) }
-{
-    match serve_call(alloc, space, store, program, methods, call) {
-        Ok(response) => Ok(Served {
-            piece: Vec::new(alloc),
-            response,
-        }),
-        Err(fault) => Err(fault),
-    }
 }
 
 /// Serves a call, of a method of Ractor too. A refused growth leaves the objects as they were.
@@ -246,31 +217,6 @@ fn serve_called(
         Some(method) => serve_ractor(alloc, space, store, program, method, &call.arguments),
         None => serve_call(alloc, space, store, program, methods, call),
     }
-}
-
-/// Gives an instance variable of an object a value. A refused growth leaves the objects as they were.
-#[inline(always)]
-pub fn serve_field(
-    alloc: Global,
-    space: &mut Space,
-    store: &StoreState,
-    program: &Program,
-    name: Sym,
-    object: Ref,
-    value: Ref,
-) -> Result<Served, Fault>
-    requires read { IsReadWith space.old (published store.now) }
-    requires reached { All (IsReached (reach (length space.old.slots) (Some (published store.now)))) (object ∷ value ∷ []) }
-    ensures piece { IfOk result (λ served. served.piece.items ≡ piece_of (Tasks.SetField name) (names_of program.now) space.old (object ∷ value ∷ [])) }
-    ensures replied { IfOk result (λ served. IsTaskReplied (context_of program.now) (published store.now) (Tasks.SetField name) (object ∷ value ∷ []) space.old served.response space.new) }
-    ensures left { IfOk result (λ served. IsLeft (published store.now) space.old served.response space.new) }
-    ensures refused { IfErr result (IsTaskRefused (context_of program.now) (published store.now) (Tasks.SetField name) (object ∷ value ∷ []) space.old) }
-{
-    let response = write_field(space, store, object, name, value)?;
-    Ok(Served {
-        piece: Vec::new(alloc),
-        response,
-    })
 }
 
 /// Makes an array of many values, which are moved into it.

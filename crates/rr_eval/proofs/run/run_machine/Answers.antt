@@ -1,21 +1,46 @@
 -- What one turn did, and how its request was served.
-use Rattle.std.proofs.Common.{inl, refl, sym, subst, ◌∙◌, arith, ap, length, ◌≤◌, Some, None}
+use Rattle.std.proofs.Common.{ℕ, List, inl, sym, subst, ◌∙◌, arith, ap, length, ◌≤◌, Some, None}
 use Rattle.rr_text.specs.Reads.{IsReadWith}
 use Rattle.rr_eval.specs.declared.call.Arguments.TheVariants.{Two}
 use Rattle.rr_eval.specs.declared.call.Task.TheVariants.{SetField}
-use Rattle.rr_eval.specs.declared.request.Request.TheVariants.{Do}
+use Rattle.rr_eval.specs.declared.request.Request.TheVariants.{Call, Do}
 use Rattle.rr_eval.specs.Published.{published}
-use Rattle.rr_eval.specs.Script.{World}
+use Rattle.rr_base.specs.declared.fault.Fault.TheVariants as faults
+use Rattle.rr_base.specs.declared.limits.LimitKind.TheVariants as limits
+use Rattle.rr_space.specs.Tables.{Table}
+use Rattle.rr_space.specs.declared.refer.Ref.{Ref}
+use Rattle.rr_store.specs.Stores.{Store}
+use Rattle.rr_eval.specs.declared.run.Outcome.{Outcome}
+use Rattle.rr_eval.specs.declared.run.Outcome.TheVariants as outcomes
+use Rattle.rr_eval.specs.Context.{Context}
+use Rattle.rr_eval.specs.Exceptions.{IsTold}
+use Rattle.rr_eval.specs.Script.{World, Outcome as Evaluated, objects_of}
+use Rattle.rr_eval.specs.Served.{Exchange}
 use Rattle.rr_eval.specs.Alone.{AloneExceeds}
 use Rattle.rr_eval.specs.Turns.{context_of}
 use Rattle.rr_eval.specs.Requests.{asked_of}
-use Rattle.rr_eval.specs.Runs.{program_meaning}
+use Rattle.rr_eval.specs.Runs.{EndsRaised, FitsSlots, IsRaised, Leaves, StopsWhereFull, program_meaning, text_of}
 use Rattle.rr_eval.specs.Within.{reach, AreReached, IsRequestReached}
-use Rattle.rr_eval.specs.Written.{written_to, WritesAll, FallsShort}
+use Rattle.rr_eval.specs.Written.{Written, written_to, WritesAll, WritesBeginning, FallsShort}
 use Rattle.rr_eval.proofs.Holding.{within_more, reached_more, reached_wider, response_within}
 use Rattle.rr_eval.proofs.Running.{running_first, running_on, running_more, running_silent, running_failed, running_raised, running_stopped, running_done, running_spent, running_fits, running_full, running_passes}
 use Rattle.rr_eval.proofs.run.run_machine.Goals as goal
-use Rattle.rr_eval.proofs.run.run_machine.Goals.{in-Ok-report, in-Err-report}
+
+-- what is told of an exception that nothing rescues, or that there is no memory for it
+raised_leaves : (c : Context) (old now : Written) (o : Evaluated) (t : Table) (v : Ref) (ended : Outcome) → EndsRaised t v ended → ((told : List ℕ) → IsTold t v told → IsRaised o told × WritesAll old now (text_of c o)) → WritesBeginning old now (text_of c o) → Leaves c old now o ended
+raised_leaves c old now o t v (outcomes.Raised told) is raises stops = raises told.items is
+raised_leaves c old now o t v (outcomes.Stopped fault) is raises stops = (inl is, stops)
+raised_leaves c old now o t v _ is raises stops = absurd is
+
+raised_fits : (slots : ℕ) (o : Evaluated) (ended : Outcome) → objects_of o ≤ slots → FitsSlots slots o ended
+raised_fits slots o outcomes.Done fits = fits
+raised_fits slots o (outcomes.Raised told) fits = fits
+raised_fits slots o outcomes.StepLimit fits = fits
+raised_fits slots o _ fits = tt
+
+raised_full : (c : Context) (slots : ℕ) (exchanges : List Exchange) (store : Store) (meaning : World → Evaluated) (t : Table) (v : Ref) (ended : Outcome) → EndsRaised t v ended → StopsWhereFull c slots exchanges store meaning ended
+raised_full c slots exchanges store meaning t v (outcomes.Stopped fault) is = λ full. absurd (cc (is, full))
+raised_full c slots exchanges store meaning t v _ is = tt
 
 pub loop-request-init : goal.loop-request-init
 loop-request-init g c =
@@ -129,6 +154,50 @@ loop-request-preserved-in-Some g c =
       running = rw c.answer.ensures.goes (running_silent c.args.limits.events p _ _ _ _ _ _ before.running c.turn-turned.new.self c.turn-turned.new.space c.set_alone.new.space q c.in-Ok.response turned.1 c.in-Ok.ensures.replied c.set_alone.ensures.piece);
     }
 
+pub call_alone-requires-clause-read : goal.call_alone-requires-clause-read
+call_alone-requires-clause-read g c = c.in-Ok-Ask.ensures.read (published c.loop-request.store) c.loop-request.invariant.read c.loop-request.invariant.reached
+
+pub call_alone-requires-clause-reached : goal.call_alone-requires-clause-reached
+call_alone-requires-clause-reached g c =
+    let asked = rw c.in-Ok-Ask.field-0-is at (c.in-Ok-Ask.ensures.ends_reach (Some (published c.loop-request.store)) c.loop-request.invariant.reached) in
+    subst (IsRequestReached (reach (length c.turn-turned.new.space.slots) (Some (published c.loop-request.store)))) c.in-Some-own_call.ensures.0 asked
+
+pub returns-in-Err-call_alone : goal.returns-in-Err-call_alone
+returns-in-Err-call_alone g c =
+    let p = c.args.prepared.now.program in
+    let asks = c.in-Ok-Ask.ensures in
+    let running = c.loop-request.invariant.running in
+    let turned = rw c.in-Some-own_call.ensures.0 at (rw c.in-Ok-Ask.field-0-is at asks.turned) in
+    let q = asked_of c.turn-turned.new.space (Call c.in-Some-own_call.call.now) in
+    let limit = asks.limit ∙ c.loop-request.invariant.limit in
+    record {
+      exchanges = running.exchanges;
+      store = c.loop-request.store;
+      served = running.served;
+      leaves = λ w so. (c.in-Err-call_alone.ensures.refused.refused, running_stopped c.args.limits.events p _ _ _ _ _ _ running w so);
+      fits = λ w so. tt;
+      full = λ is. running_full c.args.limits.events p _ _ _ _ _ _ running c.args.limits.slots c.turn-turned.new.self c.turn-turned.new.space q turned.1
+          (subst (λ slots. AloneExceeds (context_of p) c.loop-request.store slots q c.turn-turned.new.space) limit (c.in-Err-call_alone.ensures.refused.full is));
+    }
+
+pub loop-request-preserved-in-Some-own_call : goal.loop-request-preserved-in-Some-own_call
+loop-request-preserved-in-Some-own_call g c =
+    let p = c.args.prepared.now.program in
+    let below = published c.loop-request.store in
+    let asks = c.in-Ok-Ask.ensures in
+    let before = c.loop-request.invariant in
+    let turned = rw c.in-Some-own_call.ensures.0 at (rw c.in-Ok-Ask.field-0-is at asks.turned) in
+    let q = asked_of c.turn-turned.new.space (Call c.in-Some-own_call.call.now) in
+    let k = length c.call_alone.new.space.slots in
+    let left = c.in-Ok-call_alone.ensures.left in
+    record {
+      within = c.answer-in-Ok-call_alone.ensures.within (reach k None) (within_more _ _ left.grows _ asks.within) (response_within k (Some below) _ left.reached);
+      reached = c.answer-in-Ok-call_alone.ensures.within (reach k (Some below)) (reached_more _ _ (Some below) left.grows _ (asks.reach (Some below) before.reached)) left.reached;
+      read = left.read;
+      limit = left.rest.limit ∙ asks.limit ∙ before.limit;
+      running = rw c.answer-in-Ok-call_alone.ensures.goes (running_silent c.args.limits.events p _ _ _ _ _ _ before.running c.turn-turned.new.self c.turn-turned.new.space c.call_alone.new.space q c.in-Ok-call_alone.response turned.1 c.in-Ok-call_alone.ensures.replied c.call_alone.ensures.piece);
+    }
+
 pub loop-request-preserved : goal.loop-request-preserved
 loop-request-preserved g c =
     let p = c.args.prepared.now.program in
@@ -172,25 +241,19 @@ returns-in-Ok-Raised g c =
     let p = c.args.prepared.now.program in
     let turned = rw c.in-Ok-Raised.field-0-is at c.in-Ok-Raised.ensures.turned in
     let running = c.loop-request.invariant.running in
-    let fits : length c.turn-turned.new.space.slots ≤ c.args.limits.slots = omega (arith, c.objects_fit.ensures, c.in-Ok-Raised.ensures.limit, c.loop-request.invariant.limit) in
-    elim c.match-report.branch [
-      | in-Ok-report x ↦ rw (x.result-is) record {
-        exchanges = running.exchanges;
-        store = c.loop-request.store;
-        served = running.served;
-        leaves = running_raised c.args.limits.events p _ _ _ _ _ _ running c.turn-turned.new.self c.turn-turned.new.space c.in-Ok-Raised.exception x.in-Ok-report.told.items turned.1 x.in-Ok-report.ensures;
-        fits = running_fits c.args.limits.events p _ _ _ _ _ _ running c.args.limits.slots _ turned.1 (λ h. fits);
-        full = tt;
-      }
-      | in-Err-report x ↦ rw (x.result-is) record {
-        exchanges = running.exchanges;
-        store = c.loop-request.store;
-        served = running.served;
-        leaves = λ w so. (inl refl, running_stopped c.args.limits.events p _ _ _ _ _ _ running w so);
-        fits = λ w so. tt;
-        full = λ is. absurd (cc is);
-      }
-    ]
+    let v = c.in-Ok-Raised.exception in
+    let t = c.turn-turned.new.space in
+    let ended = c.raised.result in
+    let now = written_to g.O.Output.contents g.O.Output.failures c.loop-request.output in
+    let fits : length t.slots ≤ c.args.limits.slots = omega (arith, c.objects_fit.ensures, c.in-Ok-Raised.ensures.limit, c.loop-request.invariant.limit) in
+    record {
+      exchanges = running.exchanges;
+      store = c.loop-request.store;
+      served = running.served;
+      leaves = λ w so. raised_leaves (context_of p) _ now _ t v ended c.raised.ensures (λ told is. running_raised c.args.limits.events p _ _ _ _ _ _ running c.turn-turned.new.self t v told turned.1 is w so) (running_stopped c.args.limits.events p _ _ _ _ _ _ running w so);
+      fits = λ w so. raised_fits c.args.limits.slots _ ended (running_fits c.args.limits.events p _ _ _ _ _ _ running c.args.limits.slots _ turned.1 (λ h. fits) w so);
+      full = raised_full (context_of p) c.args.limits.slots running.exchanges c.loop-request.store _ t v ended c.raised.ensures;
+    }
 
 pub returns-in-Ok-Done : goal.returns-in-Ok-Done
 returns-in-Ok-Done g c =

@@ -4,7 +4,7 @@ use Rattle.rr_eval.specs.Published.{published}
 use Rattle.rr_eval.specs.Turns.{context_of}
 use Rattle.rr_eval.specs.Within.{reach}
 use Rattle.rr_eval.proofs.Specials.{constant_reached, copy_reached}
-use Rattle.rr_eval.proofs.alone.serve_apart.Goals as goal
+use Rattle.rr_eval.proofs.alone.serve_alone.Goals as goal
 
 pub set_constant-requires-clause-value : goal.set_constant-requires-clause-value
 set_constant-requires-clause-value c =
