@@ -52,6 +52,7 @@ module PF
     def %(o) = super(PF.num(o))
     def -@ = PF.ck(super)
     def abs = PF.ck(super)
+    def ==(o) = Integer === o && super
     %w[< <= > >=].each { |m| class_eval "def #{m}(o) = (Integer === o ? super : raise(ArgumentError, \"comparison of Integer with \#{PF.cls(o)} failed\"))" }
   end
   Integer.prepend Int
@@ -110,6 +111,11 @@ end
 class Object; def inspect = "#<#{PF.cls(self)}>"; def to_s = "#<#{PF.cls(self)}>"; end
 class << self; def inspect = "#<Object>"; def to_s = "#<Object>"; end
 class Exception
+  # A message that is no text counts as none.
+  module PfText
+    def initialize(*values, **named) = super(*(values.size == 1 && !(String === values[0]) ? [] : values), **named)
+  end
+  prepend PfText
   def inspect = "#<#{self.class}: #{message}>"
 end
 class NameError

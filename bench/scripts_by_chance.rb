@@ -2,8 +2,9 @@
 #
 #   ruby -W0 bench/scripts_by_chance.rb PROGRAM [FIRST [COUNT]]
 #
-# PROGRAM is the built `ractor`. Each number from FIRST on (0) makes one script, the same each time: methods with blocks, loops, clauses
-# and `ensure` parts inside one another, iterations, containers and operators, most of them on values that do not suit. The script runs
+# PROGRAM is the built `ractor`. Each number from FIRST on (0) makes one script, the same each time: classes, of exceptions too, with
+# attributes and `super`, methods with blocks, loops, clauses and `ensure` parts inside one another, iterations, containers and
+# operators, most of them on values that do not suit. The script runs
 # in PROGRAM and in a CRuby that bench/profile.rb and bench/strict.rb have bent to the language; each number whose outputs or errors
 # differ is printed, and last the counts. A script that one of the two refuses as a syntax error wants the other to refuse it too; one
 # that needs what is not evaluated yet is passed over. It is no part of the gate.
@@ -20,6 +21,10 @@ class Script
   PLAIN = %w[size to_s inspect nil? class abs even? zero? first last empty? keys values sum frozen? dup freeze length odd? shift pop].freeze
   ONE = %w[include? push equal? is_a? key? delete join].freeze
   INFIX = %w[+ - * / % < > <= >= == != <=> <<].freeze
+  ABOVE = ["", "", " < StandardError", " < ArgumentError"].freeze
+  FIELDS = %w[@x @y].freeze
+  # The methods of classes, by how many parameters they have.
+  OWN = [%w[m0 x y], %w[m1 ==], %w[m2]].freeze
   ITERATIONS = ["3.times", "2.upto(4)", "[1, 2, 3].each", "[[1, 2], [3]].each", "[4, 5].each_with_index", "[6, 7, 8].map",
                 "[1, nil, 2].select", "{k: 1, 2 => [3]}.each"].freeze
 
@@ -27,13 +32,14 @@ class Script
     @random = Random.new(seed)
     @known = NAMES
     @methods = []
+    @classes = []
     @deep = @loops = @blocks = @counters = 0
     @in_method = @yields = false
   end
 
   def text
-    definitions = Array.new(any(4)) { |number| definition(number) }
-    start = "a = #{pick('1', '[]', '"q"', 'nil')}; b = #{pick('2', '{}', '[1, 2]')}; c = #{pick('3', ':z', '"w"')}"
+    definitions = Array.new(any(4)) { |number| definition(number) } + Array.new(any(4)) { |number| class_of(number) }
+    start = "a = #{@classes.empty? ? pick('1', '[]', '"q"', 'nil') : made}; b = #{pick('2', '{}', '[1, 2]')}; c = #{pick('3', ':z', '"w"')}"
     (definitions + [start] + Array.new(2 + any(4)) { statement }).join("\n") + "\n"
   end
 
@@ -63,8 +69,54 @@ class Script
     @in_method = @yields = false
   end
 
+  def class_of(number)
+    parent = pick(*@classes) if likely?(0.6) && !@classes.empty?
+    above = parent ? " < #{parent.first}" : pick(*ABOVE)
+    raised = parent ? parent.last : above.include?("Error")
+    count = any(3)
+    members = ["attr_#{pick('reader', 'writer', 'accessor')} #{pick(':x', ':y', ':x, :y')}"] if likely?(0.6)
+    members = Array(members) + [method_of("initialize", count)] if likely?(0.7)
+    members = Array(members) + Array.new(any(3)) { any(3).then { |wanted| method_of(pick(*OWN[wanted]), wanted) } }
+    members += ["def to_s; \"<#{number}>\"; end"] if likely?(0.3) && !raised
+    @classes += [["K#{number}", count, raised]]
+    (["class K#{number}#{above}"] + members + ["end"]).join("\n")
+  end
+
+  def method_of(name, count)
+    @in_method = true
+    parameters = NAMES.take(count)
+    others = NAMES.drop(count).map { |other| "#{other} = #{pick('0', 'nil', '@x')}" }.join("; ")
+    first = likely?(0.4) ? pick("super; ", "super(); ", "p super; ", "super(#{atom}); ") : ""
+    "def #{name}(#{parameters.join(', ')}); #{others}; #{first}#{FIELDS[any(2)]} = #{atom}; #{several(2)}; end"
+  ensure
+    @in_method = false
+  end
+
+  def own
+    case any(5)
+    when 0, 1 then pick(*FIELDS)
+    when 2 then "self"
+    when 3 then made
+    else sent
+    end
+  end
+
+  def made
+    name, count, = pick(*@classes)
+    "#{name}.new(#{Array.new(likely?(0.9) ? count : any(4)) { atom }.join(', ')})"
+  end
+
+  def sent
+    wanted = any(3)
+    name = pick(*OWN[wanted].grep(/\w/))
+    "#{pick(atom, 'self', *@known)}.#{name}(#{Array.new(wanted) { atom }.join(', ')})"
+  end
+
   def atom
-    case any(12)
+    return deeper { own } if !@classes.empty? && @deep < 5 && likely?(0.25)
+
+    case any(13)
+    when 12 then pick("$g", "A", "B")
     when 0..2 then pick("0", "1", "2", "3", "5", "7", "10", "-1", "-3")
     when 3..5 then pick(*@known)
     when 6 then "\"#{pick('', 'x', 'ab', 'tick', 'é')}\""
@@ -98,6 +150,7 @@ class Script
     when 20 then "begin; #{expression}; rescue => e; e.message; end"
     when 21 then @yields ? "yield(#{Array.new(any(3)) { atom }.join(', ')})" : atom
     when 22 then iteration
+    when 23 then likely?(0.3) ? pick("lost #{block}", "lost(#{atom}) #{block}", "#{atom}.lost(#{atom}) #{block}") : atom
     else atom
     end
   end
@@ -132,7 +185,7 @@ class Script
   end
 
   def statement
-    deeper { @deep > 5 ? shallow(any(4)) : shallow(any(34)) }
+    deeper { @deep > 5 ? shallow(any(4)) : shallow(any(36)) }
   end
 
   def shallow(choice)
@@ -147,13 +200,15 @@ class Script
     when 14, 15 then @loops + @blocks > 0 ? "#{pick('break', 'next')}#{pick('', ' 1', ' 1, 2')} if #{expression}" : "p(#{atom})"
     when 16, 17 then @in_method ? "return#{pick('', " #{atom}", " 1, #{atom}")} if #{expression}" : "p(#{atom})"
     when 18..21 then guarded
-    when 22 then "raise #{pick(*RAISED)} if #{expression}"
+    when 22 then "raise #{pick(*RAISED, *@classes.map { |name, *| pick(name, "#{name}, \"w\"") })} if #{expression}"
     when 23 then "#{pick(*@known)} << #{atom}"
-    when 24 then "#{pick(*@known)}[#{atom}] = #{atom}"
+    when 24 then pick("#{pick(*@known)}[#{atom}] = #{atom}", "#{pick(*@known)}.#{pick('x', 'y')} #{pick('', '+', '||')}= #{atom}")
     when 25 then @yields ? "p((yield #{atom}))" : "p(#{atom})"
     when 26, 27 then @methods.empty? ? "p(#{atom})" : pick("p(#{call})", call)
     when 28, 29 then pick("p(#{iteration})", iteration)
     when 30 then "p #{atom}, #{atom}"
+    when 31 then "$g #{pick('', '+', '||')}= #{expression}"
+    when 32 then @in_method ? "p(A)" : "#{pick('A', 'B')} ||= #{expression}"
     else "p(#{expression})"
     end
   end
@@ -169,7 +224,7 @@ class Script
   def guarded
     parts = ["begin; #{several(2)}; "]
     if likely?(0.7)
-      parts << "rescue#{pick(*WRONG)} => e; p [e.class, e.message]; #{statement}; "
+      parts << "rescue#{pick(*WRONG, *@classes.map { |name, *| " #{name}" })} => e; p [e.class, e.message]; #{statement}; "
       parts << "else; #{statement}; " if likely?(0.3)
     end
     parts << "ensure; #{statement}; " if likely?(0.5)
