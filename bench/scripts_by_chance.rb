@@ -7,7 +7,7 @@
 # operators, most of them on values that do not suit. The script runs
 # in PROGRAM and in a CRuby that bench/profile.rb and bench/strict.rb have bent to the language; each number whose outputs or errors
 # differ is printed, and last the counts. A script that one of the two refuses as a syntax error wants the other to refuse it too; one
-# that needs what is not evaluated yet is passed over. It is no part of the gate.
+# that needs what is not evaluated yet is passed over, and so is one that takes CRuby more than ten seconds. It is no part of the gate.
 
 require "open3"
 require "rbconfig"
@@ -185,7 +185,7 @@ class Script
   end
 
   def statement
-    deeper { @deep > 5 ? shallow(any(4)) : shallow(any(36)) }
+    deeper { @deep > 5 ? shallow(any(4)) : shallow(any(40)) }
   end
 
   def shallow(choice)
@@ -208,8 +208,27 @@ class Script
     when 28, 29 then pick("p(#{iteration})", iteration)
     when 30 then "p #{atom}, #{atom}"
     when 31 then "$g #{pick('', '+', '||')}= #{expression}"
+    when 33 then "#{goal}, #{goal}#{pick('', ", #{goal}")} = #{pick(atom, "#{atom}, #{expression}")}"
+    when 34 then "#{place} #{pick('', '+', '*', '||', '&&', '<<')}= #{expression}"
+    when 35 then otherwise
     when 32 then @in_method ? "p(A)" : "#{pick('A', 'B')} ||= #{expression}"
     else "p(#{expression})"
+    end
+  end
+
+  def place = pick("#{pick(*@known)}[#{atom}]", "#{pick(*@known)}.#{pick('x', 'y')}", *FIELDS)
+  def goal = likely?(0.6) ? pick(*NAMES) : pick(place, "$g")
+
+  def spread = pick("[#{atom}, #{atom}]", "nil", "[]", "7")
+
+  def otherwise
+    case any(6)
+    when 0 then "unless #{expression}; #{statement}; else; #{statement}; end"
+    when 1 then "p((#{atom} #{pick('and', 'or')} not(#{atom})))"
+    when 2 then "puts [*#{spread}, #{atom}], *#{spread}"
+    when 3 then @methods.empty? ? "p(*#{spread})" : "p #{pick(*@methods).first}(*#{spread})"
+    when 4 then "if #{atom}; #{statement}; elsif #{atom}; #{statement}; end"
+    else "p(#{atom}) until #{pick('true', '!nil', '1')}"
     end
   end
 
@@ -243,10 +262,11 @@ def ours(program, file)
   Left.new(output, told.strip, status.exitstatus == 3)
 end
 
+# Nothing where it does not come to an end in ten seconds.
 def theirs(file)
   return Left.new("", "", true) unless system(RbConfig.ruby, *FLAGS, "-c", file, out: File::NULL, err: File::NULL)
-  output, told, = Open3.capture3({ "STRICT" => "1" }, RbConfig.ruby, *FLAGS, PROFILE, file)
-  Left.new(output, told.strip, false)
+  output, told, status = Open3.capture3({ "STRICT" => "1" }, "timeout", "-s", "KILL", "10", RbConfig.ruby, *FLAGS, PROFILE, file)
+  Left.new(output, told.strip, false) unless status.exitstatus == 137 || status.signaled?
 end
 
 def same?(left, right) = left.refused == right.refused && (left.refused || (left.output == right.output && left.told == right.told))
@@ -262,6 +282,10 @@ Tempfile.create(["chance", ".rb"]) do |file|
       next
     end
     right = theirs(file.path)
+    if right.nil?
+      counts[:passed_over] += 1
+      next
+    end
     counts[left.refused ? :refused : :run] += 1
     next if same?(left, right)
     counts[:differ] += 1
