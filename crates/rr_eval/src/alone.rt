@@ -109,7 +109,7 @@ pub fn set_alone(
     write_field(space, store, object, name, value)
 }
 
-/// The call that a request is of, where no method of Ractor is one of its receiver.
+/// The call that a request is of, where its receiver has no method of Ractor.
 #[inline(always)]
 pub fn own_call(request: &Request) -> Option<&Call>
     ensures { IfSome result (λ call. (request.now ≡ Requests.Call call.now) × ((c : Context) (callee : Called) → ractor_method c call.now.receiver callee ≡ None)) }
@@ -126,7 +126,7 @@ pub fn own_call(request: &Request) -> Option<&Call>
     }
 }
 
-/// Calls a built-in method of a receiver that no method of Ractor has, as a script asks that runs alone: nothing is printed. A refused
+/// Calls a built-in method of a receiver that has no method of Ractor, as a script asks that runs alone: nothing is printed. A refused
 /// growth leaves the objects as they were.
 #[inline(always)]
 pub fn call_alone(

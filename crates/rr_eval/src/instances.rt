@@ -62,7 +62,7 @@ pub struct Instances {
     pub maker: Option<Sym>,
 }
 
-/// The class whose new object a call of the class makes, where the object gets the program's `initialize`.
+/// Whether a call of a class by a name makes a new object that gets the program's `initialize`, where no method of the program is found.
 fn made_by(
     program: &Program,
     methods: &Methods,
@@ -81,7 +81,7 @@ fn made_by(
 }
 
 /// The name by which a call of a class makes a new object that gets the program's `initialize`: this one, where no method of the program
-/// has it that a class finds.
+/// has it that classes find.
 fn maker_of(
     program: &Program,
     table: &MethodTable,
