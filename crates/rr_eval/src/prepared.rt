@@ -313,11 +313,11 @@ impl Prepared {
         }
     }
 
-    /// Whether a value has a built-in method of the name.
-    pub(crate) fn has_built_in(&self, space: &Space, value: Ref, name: Sym) -> bool
-        ensures { result ≡ has_built_in (kind_at space.now value) (method_of (context_of self.now.program) (Called.Name name)) }
+    /// Whether a value has the built-in method that is called.
+    pub(crate) fn has_built_in(&self, space: &Space, value: Ref, callee: Callee) -> bool
+        ensures { result ≡ has_built_in (kind_at space.now value) (method_of (context_of self.now.program) callee) }
     {
-        match method_of(&self.program, &self.methods, Callee::Name(name)) {
+        match self.built_in(callee) {
             Some(method) => has(space.kind_of(value), method),
             None => false,
         }

@@ -160,8 +160,8 @@ impl Engine {
     {
         self.frames.reserve(1)?;
         let receiver = self.itself();
-        if prepared.has_built_in(space, receiver, name) {
-            let callee = Callee::Name(name);
+        let callee = Callee::Name(name);
+        if prepared.has_built_in(space, receiver, callee) {
             let frame = Frame::Not;
             self.send_built_in(
                 prepared,

@@ -34,7 +34,7 @@ use crate::ractor_method::{RactorMethod, ractor_method};
 use crate::sending::last_of;
 use crate::serve::receiver_of;
 use rr_base::{BuiltInClass, Fault, Sym};
-use rr_builtin::{Problem as BuiltInProblem, has};
+use rr_builtin::Problem as BuiltInProblem;
 use rr_isolation::isolate;
 use rr_space::{Kind, Label, Ref, Space};
 use rr_tree::{NodeId, Program};
@@ -116,9 +116,10 @@ fn start_problem(program: &Program, space: &Space, value: Ref) -> Problem
 fn refused_call(prepared: &Prepared, space: &Space, receiver: Ref, callee: Callee) -> Problem
     ensures { result ≡ refused_call (context_of prepared.now.program) space.now receiver callee }
 {
-    match prepared.built_in(callee) {
-        Some(method) if has(space.kind_of(receiver), method) => Problem::NotHere,
-        _ => Problem::MissingMethod(callee, receiver_of(space, receiver)),
+    if prepared.has_built_in(space, receiver, callee) {
+        Problem::NotHere
+    } else {
+        Problem::MissingMethod(callee, receiver_of(space, receiver))
     }
 }
 
