@@ -25,12 +25,10 @@ pub(crate) fn append_within(slots: &mut Vec<Ref>, values: &[Ref], last: Option<R
     ensures items { slots.new.items ≡ slots.old.items ++ values.now ++ list_of last }
     ensures capacity { vec_capacity slots.old ≤ vec_capacity slots.new }
 {
-    // A call with no arguments is spared the copy.
-    if !values.is_empty() {
-        match slots.extend_from_slice(values) {
-            Ok(()) => (),
-            Err(_) => unreachable!(),
-        }
+    let mut rest = values;
+    while let [value, more @ ..] = rest {
+        slots.push_reserved(*value);
+        rest = more;
     }
     if let Some(value) = last {
         slots.push_reserved(value);
