@@ -7,7 +7,7 @@ ghost use Rattle.ractor.specs.Endings.{Ends};
 use crate::statuses::status_of;
 use crate::tell::tell;
 use crate::words::Line;
-use rr_eval::{Counted, run_source};
+use rr_eval::{Counted, run_source_leaving_objects};
 use std::alloc::Global;
 use std::io::Write;
 
@@ -52,7 +52,7 @@ fn run_file<O: Write + Send, E: Write>(
     ensures ends { Ends (record { output = counted O.contents output.old; errors = counted E.contents errors.old }) (record { output = counted O.contents output.new; errors = counted E.contents errors.new }) bytes.now result }
     ensures failed { (result ≡ 4) ↔ (failures output.new ≡ failures output.old + 1) }
 {
-    let ended = run_source(alloc, bytes, output);
+    let ended = run_source_leaving_objects(alloc, bytes, output);
     let _whole = tell(errors, &ended);
     status_of(&ended)
 }

@@ -114,6 +114,8 @@ pub use machine::{Machine, exceptions_hold, rules_hold};
 pub use prepared::Prepared;
 pub use problem::{Problem, Response};
 pub use request::Request;
-pub use run::{Outcome, make_first, run_source, run_source_in_turns, run_source_within};
+pub use run::{
+    Outcome, make_first, run_source, run_source_in_turns, run_source_leaving_objects, run_source_within,
+};
 pub use setting::set_constant;
 pub use sharing::sharing_holds;

@@ -48,10 +48,10 @@ loop-request-init g c =
     let fresh = sym (ap published c.new-store.ensures) in
     record {
       within = c.requires.within;
-      reached = subst (λ below. AreReached (reach (length c.args.space.slots) (Some below)) c.args.machine) fresh c.requires.reached;
-      read = subst (IsReadWith c.args.space) fresh c.requires.read;
+      reached = subst (λ below. AreReached (reach (length c.args.space.now.slots) (Some below)) c.args.machine) fresh c.requires.reached;
+      read = subst (IsReadWith c.args.space.now) fresh c.requires.read;
       limit = c.requires.limit;
-      running = rw c.new-store.ensures (running_first c.args.limits.events p c.args.machine c.args.space (program_meaning p c.args.limits) _ c.requires.whole);
+      running = rw c.new-store.ensures (running_first c.args.limits.events p c.args.machine c.args.space.now (program_meaning p c.args.limits) _ c.requires.whole);
     }
 
 pub loop-request-preserved-in-Ok-More : goal.loop-request-preserved-in-Ok-More

@@ -15,8 +15,8 @@ use Rattle.rr_eval.proofs.Objects.{begun_keeps}
 use Rattle.rr_eval.proofs.Running.{stopped_first, first_table, first_state}
 use Rattle.rr_eval.proofs.run.run_program.Goals as goal
 
-pub run_machine-requires-clause-within : goal.run_machine-requires-clause-within
-run_machine-requires-clause-within g c =
+pub run_machine-ended-requires-clause-within : goal.run_machine-ended-requires-clause-within
+run_machine-ended-requires-clause-within g c =
     let p = c.args.prepared.now.program in
     let made = c.new-space.ensures in
     let first = c.in-Ok.ensures in
@@ -28,8 +28,8 @@ run_machine-requires-clause-within g c =
     let reached = λ (clusters : Option Below). subst (IsReached (reach (length u.slots) clusters)) (sym zero) one in
     c.in-Ok-new.ensures.within (reach (length u.slots) None) (reached None)
 
-pub run_machine-requires-clause-reached : goal.run_machine-requires-clause-reached
-run_machine-requires-clause-reached g c =
+pub run_machine-ended-requires-clause-reached : goal.run_machine-ended-requires-clause-reached
+run_machine-ended-requires-clause-reached g c =
     let p = c.args.prepared.now.program in
     let made = c.new-space.ensures in
     let first = c.in-Ok.ensures in
@@ -41,8 +41,8 @@ run_machine-requires-clause-reached g c =
     let reached = λ (clusters : Option Below). subst (IsReached (reach (length u.slots) clusters)) (sym zero) one in
     c.in-Ok-new.ensures.within (reach (length u.slots) (Some [])) (reached (Some []))
 
-pub run_machine-requires-clause-read : goal.run_machine-requires-clause-read
-run_machine-requires-clause-read g c =
+pub run_machine-ended-requires-clause-read : goal.run_machine-ended-requires-clause-read
+run_machine-ended-requires-clause-read g c =
     let p = c.args.prepared.now.program in
     let made = c.new-space.ensures in
     let first = c.in-Ok.ensures in
@@ -51,8 +51,8 @@ run_machine-requires-clause-read g c =
     let itself = c.in-Ok.itself in
     first.read (none_read t made.below)
 
-pub run_machine-requires-clause-limit : goal.run_machine-requires-clause-limit
-run_machine-requires-clause-limit g c =
+pub run_machine-ended-requires-clause-limit : goal.run_machine-ended-requires-clause-limit
+run_machine-ended-requires-clause-limit g c =
     let p = c.args.prepared.now.program in
     let made = c.new-space.ensures in
     let first = c.in-Ok.ensures in
@@ -61,8 +61,8 @@ run_machine-requires-clause-limit g c =
     let itself = c.in-Ok.itself in
     ap (λ (x : Table). x.limit) first.made ∙ made.limit
 
-pub run_machine-requires-clause-whole : goal.run_machine-requires-clause-whole
-run_machine-requires-clause-whole g c w =
+pub run_machine-ended-requires-clause-whole : goal.run_machine-ended-requires-clause-whole
+run_machine-ended-requires-clause-whole g c w =
     let p = c.args.prepared.now.program in
     let made = c.new-space.ensures in
     let first = c.in-Ok.ensures in
