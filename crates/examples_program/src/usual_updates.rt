@@ -18,6 +18,8 @@ an exception on the right side|a = 1; begin; a += raise(\"x\"); rescue => e; p a
 an operator of the program|class A; attr_reader :n; def initialize(n); @n = n; end; def +(o); A.new(@n + o); end; end; a = A.new(1); b = a; a += 4; p a.n, b.n^n|5^n1^n|
 instance variables|class A; def go; @n = 1; @n += 2; @n *= @n; @t = \"a\"; @t += \"b\"; p @n, @t; p (@n -= 1); end; end; A.new.go^n|9^n\"ab\"^n8^n|
 an instance variable that is unset, or of a frozen object|class A; def go; @n += 1; end; def set; @m = 1; freeze; @m += 1; end; def m; @m; end; end; begin; A.new.go; rescue NoMethodError; p 1; end; a = A.new; begin; a.set; rescue FrozenError; p a.m; end^n|1^n1^n|
+an operator on an instance variable and on a variable that are no integers|class A; def go(t, m); @t = \"a\"; @t += t; @l = [1]; @l += m; @n = 4; @n += @n; begin; @n += t; rescue TypeError; p @t, @l, @n; end; end; end; A.new.go(\"b\", [2])^n|\"ab\"^n[1, 2]^n8^n|
+an instance variable gets what a method gives whose name an attribute has|class A; attr_reader :v; def initialize; @v = 1; end; end; class B; def v; 5; end; def take(o); @w = o.v; @w += o.v; end; end; b = B.new; p b.take(A.new), b.take(b)^n|2^n10^n|
 instance variables in blocks and loops|class A; def go; @s = 0; 4.times { ^pi^p @s += i }; i = 0; while i < 3; @s += i; i += 1; end; @s; end; end; p A.new.go^n|9^n|
 elements of arrays|a = [1, 2]; i = 1; a[0] += 5; a[i] *= 4; a[-1] -= 1; p a; p (a[i - 1] += 1)^n|[6, 7]^n7^n|
 elements of hashes|h = {a: 1}; k = \"t\"; h[:a] += 1; h[k] = \"x\"; h[k] += \"y\"; p h[:a], h[\"t\"]; h[3] = [1]; h[3] += [2]; p h[3]^n|2^n\"xy\"^n[1, 2]^n|

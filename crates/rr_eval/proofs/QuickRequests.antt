@@ -75,11 +75,11 @@ put_waits p m t base x v vs callee none all = λ fs h n.
     ∙ ap (λ (l : List Ref). after_values p k t (Put (Sent callee) base) (sent_first own callee l) h n) (sym all)
     ∙ ap (λ o. after_values p k t (Put (Sent callee) base) (joined_or_sent own o callee v vs) h n) (sym none)
 
--- a receiver alone is evaluated
-pub bare_comes : (p : Program) (m : View) (t : Table) (script : Script) (a : Tree) (i : ℕ) (v : Ref) (next : List Ref → Script) → script ≡ with_value a (λ u. next (u ∷ [])) → TakesNow p m t a i v → ComesTo p m t script i (next (v ∷ []))
-bare_comes p m t script a i v next is takes = λ h n.
+-- one part is evaluated
+pub value_comes : (p : Program) (m : View) (t : Table) (script : Script) (a : Tree) (i : ℕ) (v : Ref) (next : Ref → Script) → script ≡ with_value a next → TakesNow p m t a i v → ComesTo p m t script i (next v)
+value_comes p m t script a i v next is takes = λ h n.
     ap (λ r. runs_in (code_of p h.world) r (state_of p m t h) (i + n)) is
-    ∙ part_comes p m t a i v (on_value (λ u. next (u ∷ []))) takes h n
+    ∙ part_comes p m t a i v (on_value next) takes h n
 
 -- two parts are evaluated that are not spread
 pub takes_values : (p : Program) (script : Script) (a b : Tree) (next : List Ref → Script) → script ≡ values (a ∷ b ∷ []) [] next → TakesTwo p script a b (λ v w. next (v ∷ w ∷ []))

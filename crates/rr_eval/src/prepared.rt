@@ -185,6 +185,15 @@ impl Prepared {
         }
     }
 
+    /// Whether the part at a place is taken for one that needs no frame.
+    #[inline(always)]
+    pub(crate) fn is_simple(&self, place: NodeId) -> bool {
+        match self.part(place) {
+            Some(SimplePart::Other) | None => false,
+            Some(_) => true,
+        }
+    }
+
     /// The links of a chain, where they lie there.
     #[inline(always)]
     pub(crate) fn links(&self, chain: Chain) -> Option<&[Link]>

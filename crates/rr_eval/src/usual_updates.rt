@@ -40,7 +40,7 @@ use rr_tree::{BinaryOperator, Node, NodeId};
 impl Engine {
     /// The value of an operator on two parts that need no frame and are integers, where the steps do not stop before what follows.
     #[inline(always)]
-    fn combined(
+    pub(crate) fn combined(
         &self,
         prepared: &Prepared,
         space: &Space,
@@ -266,7 +266,8 @@ impl Engine {
         true
     }
 
-    /// Evaluates an assignment with an operator.
+    /// Evaluates an assignment with an operator: it answers whether it was done. One to an instance variable of a part that needs no frame is
+    /// asked for at once, where it is one of integers.
     #[cold]
     #[inline(never)]
     pub fn update_usual(
@@ -278,7 +279,7 @@ impl Engine {
         target: NodeId,
         value: NodeId,
         stop: u64,
-    )
+    ) -> bool
         requires control { self.old.control ≡ Controls.Enter here }
         requires tree { tree_at prepared.now.program.nodes.items here ≡ evaluated_tree prepared.now.program.nodes.items (Node.OperatorAssign op target value) }
         requires some { stop < self.old.left }
@@ -288,7 +289,8 @@ impl Engine {
         ensures nested { IsNested (view_of self.new) }
         ensures within { (clusters : Option Below) → AreReached (reach (length space.now.slots) clusters) (view_of self.old) → AreReached (reach (length space.now.slots) clusters) (view_of self.new) }
         ensures left { stop ≤ self.new.left }
-        ensures spends { self.new.left < self.old.left }
+        ensures kept { self.new.left ≤ self.old.left }
+        ensures spends { IsTrue result → self.new.left < self.old.left }
         ensures falls { power (view_of self.new) + self.old.left ≤ power (view_of self.old) + self.new.left }
     {
         match prepared.node(target) {
@@ -300,6 +302,9 @@ impl Engine {
                 }
             }
             Some(&Node::Field(name)) => {
+                if prepared.is_simple(value) {
+                    return false;
+                }
                 let frame = Frame::SetField(name);
                 self.update_under(prepared, space, here, frame, op, target, value, stop);
             }
@@ -315,6 +320,7 @@ impl Engine {
             }
             _ => self.update_any(prepared, here, op, target, value, stop),
         }
+        true
     }
 
     /// Leaves a variable that is true, as an assignment to it does that is made unless it is: it answers whether it did.

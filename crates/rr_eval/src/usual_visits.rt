@@ -407,10 +407,10 @@ impl Engine {
             }
             &Node::Return(value) => self.visit_return(prepared, space, here, value, stop),
             &Node::SetField(name, value) => {
-                self.visit_set_field(prepared, space, here, name, value, stop);
+                return self.visit_set_field(prepared, here, name, value, stop);
             }
             &Node::OperatorAssign(op, target, value) => {
-                self.update_usual(prepared, space, here, op, target, value, stop);
+                return self.update_usual(prepared, space, here, op, target, value, stop);
             }
             &Node::Text(_)
             | &Node::Interpolation { .. }

@@ -181,33 +181,36 @@ impl Engine {
         self.left -= 1;
     }
 
-    /// Evaluates what is assigned to an instance variable of `self`.
+    /// Evaluates what is assigned to an instance variable of `self`, where it needs a frame: it answers whether it was done. Of another
+    /// value the assignment is asked for at once.
     #[inline(always)]
     pub fn visit_set_field(
         &mut self,
         prepared: &Prepared,
-        space: &Space,
         here: NodeId,
         name: Sym,
         value: NodeId,
         stop: u64,
-    )
+    ) -> bool
         requires control { self.old.control ≡ Control.Enter here }
         requires tree { tree_at prepared.now.program.nodes.items here ≡ evaluated_tree prepared.now.program.nodes.items (Node.SetField name value) }
         requires some { stop < self.old.left }
         requires room { length self.old.frames.items < vec_capacity self.old.frames }
         requires nested { IsNested (view_of self.old) }
-        ensures goes { (h : Course) → remaining prepared.now.program (view_of self.old) space.now h ≡ remaining prepared.now.program (view_of self.new) space.now h }
+        ensures goes { (t : Table) (h : Course) → remaining prepared.now.program (view_of self.old) t h ≡ remaining prepared.now.program (view_of self.new) t h }
         ensures nested { IsNested (view_of self.new) }
-        ensures within { (clusters : Option Below) → AreReached (reach (length space.now.slots) clusters) (view_of self.old) → AreReached (reach (length space.now.slots) clusters) (view_of self.new) }
+        ensures within { (k : Reach) → AreReached k (view_of self.old) → AreReached k (view_of self.new) }
         ensures left { stop ≤ self.new.left }
-        ensures spends { self.new.left < self.old.left }
+        ensures kept { self.new.left ≤ self.old.left }
+        ensures spends { IsTrue result → self.new.left < self.old.left }
         ensures falls { power (view_of self.new) + self.old.left ≤ power (view_of self.old) + self.new.left }
     {
-        let frame = Frame::SetField(name);
-        if let Some(found) = self.first_value(prepared, space, here, frame, value, stop) {
-            self.give_above(frame, found);
+        if prepared.is_simple(value) {
+            return false;
         }
+        self.enter_above(Frame::SetField(name), value);
+        self.left -= 1;
+        true
     }
 
     /// Evaluates a node that waits for one part, or a node of another kind, where that is usual: it answers whether it was done.

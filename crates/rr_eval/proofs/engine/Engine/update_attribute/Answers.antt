@@ -18,7 +18,7 @@ use Rattle.rr_eval.specs.Views.{view_of}
 use Rattle.rr_eval.specs.Within.{reach, IsReached}
 use Rattle.rr_eval.proofs.Holding.{all_nil, with_left, with_value}
 use Rattle.rr_eval.proofs.QuickParts.{held_comes, held_nested}
-use Rattle.rr_eval.proofs.QuickRequests.{bare_comes}
+use Rattle.rr_eval.proofs.QuickRequests.{value_comes}
 use Rattle.rr_eval.proofs.QuickSends.{holds_push}
 use Rattle.rr_eval.proofs.engine.Engine.update_attribute.Goals as goal
 
@@ -49,7 +49,7 @@ returns-clause-goes c = λ _ h.
     let enough = c.in-Some.ensures.enough in
     let k = m.left - (found.steps + 1) in
     let one : v ∷ [] ≡ drop base ones = sym (ap (drop base) pushed ∙ ap (λ b. drop b (m.held ++ v ∷ [])) at ∙ drop-append_seam m.held (v ∷ [])) in
-    let comes : ComesTo p m t (rule own (tree_at ns c.args.here)) found.steps (finish own target (v ∷ [])) = bare_comes p m t (rule own (tree_at ns c.args.here)) (tree_at ns c.args.receiver) found.steps v (finish own target) c.requires.script c.in-Some.ensures.takes in
+    let comes : ComesTo p m t (rule own (tree_at ns c.args.here)) found.steps (finish own target (v ∷ [])) = value_comes p m t (rule own (tree_at ns c.args.here)) (tree_at ns c.args.receiver) found.steps v (λ u. finish own target (u ∷ [])) c.requires.script c.in-Some.ensures.takes in
     let spent : k ≡ c.send_over.new.self.left - found.steps - 1 = omega arith in
     held_comes p m n t c.args.here base found.steps 0 target (finish own target (v ∷ [])) h c.requires.control at (holds_push m ones v pushed) comes (omega (arith, enough))
     ∙ ap (λ l. after_values p n t (Argument target 0 0 base) (Evaluate (CallPart (Name name) v []) (on_value (updated how part (put own (Sent (Setter name)) l)))) h k) one
