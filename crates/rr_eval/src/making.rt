@@ -19,6 +19,7 @@ ghost use Rattle.rr_eval.specs.Dispatch.{with_new, made_value};
 ghost use Rattle.rr_eval.specs.Script.{objects_of};
 ghost use Rattle.rr_eval.specs.Requests.{Course, Adds};
 ghost use Rattle.rr_eval.specs.Turns.{context_of, IsNested, remaining, remaining_with, after_answer, Stands, more_of, size};
+ghost use Rattle.rr_eval.specs.Usual.{IsTop};
 ghost use Rattle.rr_eval.specs.Views.{view_of};
 ghost use Rattle.rr_eval.specs.Within.{Reach, reach, AreReached, IsReached, IsAnswerReached, IsCallValueReached, IsFrameReached, AreWithin, KeepsReach, KeepsRead};
 
@@ -240,6 +241,62 @@ impl Engine {
         }
     }
 
+    /// Gives a new object to the topmost frame, which is this one. A refused growth leaves what is still to be done as it is.
+    #[inline(always)]
+    fn give_to_top(
+        &mut self,
+        prepared: &Prepared,
+        space: &mut Space,
+        frame: Frame,
+        object: Ref,
+    ) -> Result<(), Fault>
+        requires control { self.old.control ≡ Control.Give (Answer.Gave object) }
+        requires top { IsTop self.old.frames.items frame }
+        requires nested { IsNested (view_of self.old) }
+        requires within { AreWithin (length space.old.slots) (view_of self.old) }
+        ensures goes { (h : Course) → remaining prepared.now.program (view_of self.old) space.old h ≡ remaining prepared.now.program (view_of self.new) space.new h }
+        ensures nested { IsNested (view_of self.new) }
+        ensures within { (clusters : Option Below) → AreReached (reach (length space.old.slots) clusters) (view_of self.old) → AreReached (reach (length space.new.slots) clusters) (view_of self.new) }
+        ensures read { KeepsRead (view_of self.old) space.old space.new }
+        ensures left { self.new.left ≡ self.old.left }
+        ensures size { OnOk result (size (view_of self.new) ≤ 3 * length self.old.frames.items) }
+        ensures refusal { IfErr result IsRefusal }
+        ensures limit { space.new.limit ≡ space.old.limit }
+        ensures changed { Changes space.old space.new }
+        ensures full { IfErr result (λ f. (h : Course) → Adds h.world → Passes f space.old.limit (objects_of (remaining prepared.now.program (view_of self.old) space.old h))) }
+    {
+        self.take_top(frame, Answer::Gave(object));
+        self.give_object(prepared, space, frame, object)
+    }
+
+    /// Gives a new object to the frame that waits for it. A refused growth leaves what is still to be done as it is.
+    #[inline(always)]
+    fn give_new(&mut self, prepared: &Prepared, space: &mut Space, object: Ref) -> Result<(), Fault>
+        requires control { self.old.control ≡ Control.Give (Answer.Gave object) }
+        requires nested { IsNested (view_of self.old) }
+        requires within { AreWithin (length space.old.slots) (view_of self.old) }
+        ensures goes { (h : Course) → remaining prepared.now.program (view_of self.old) space.old h ≡ remaining prepared.now.program (view_of self.new) space.new h }
+        ensures nested { IsNested (view_of self.new) }
+        ensures within { (clusters : Option Below) → AreReached (reach (length space.old.slots) clusters) (view_of self.old) → AreReached (reach (length space.new.slots) clusters) (view_of self.new) }
+        ensures read { KeepsRead (view_of self.old) space.old space.new }
+        ensures left { self.new.left ≡ self.old.left }
+        ensures size { OnOk result (size (view_of self.new) ≤ 3 * length self.old.frames.items) }
+        ensures refusal { IfErr result IsRefusal }
+        ensures limit { space.new.limit ≡ space.old.limit }
+        ensures changed { Changes space.old space.new }
+        ensures full { IfErr result (λ f. (h : Course) → Adds h.world → Passes f space.old.limit (objects_of (remaining prepared.now.program (view_of self.old) space.old h))) }
+    {
+        match self.frames.last() {
+            // Most objects are initialized: such a frame is looked at where it lies.
+            Some(&Frame::Initialize(making)) => {
+                self.give_to_top(prepared, space, Frame::Initialize(making), object)
+            }
+            Some(&frame) => self.give_to_top(prepared, space, frame, object),
+            // A frame waits for each new object.
+            None => Err(Fault::Memory),
+        }
+    }
+
     /// Makes a new object, and initializes it for the frame that waits for it. A refused growth leaves what is still to be done as it
     /// is: an object that is made is not made again.
     #[inline(never)]
@@ -269,10 +326,6 @@ impl Engine {
             Err(fault) => return Err(fault),
         };
         self.control = Control::Give(Answer::Gave(object));
-        match self.frames.pop() {
-            Some(frame) => self.give_object(prepared, space, frame, object),
-            // A frame waits for each new object.
-            None => Err(Fault::Memory),
-        }
+        self.give_new(prepared, space, object)
     }
 }

@@ -363,36 +363,30 @@ impl Engine {
         true
     }
 
-    /// Gives the topmost frame, which waits for the receiver of a call, its value, where that is usual: it answers whether it was done.
+    /// Gives the topmost frame a value, where it waits for the receiver of a call that reads an attribute: it answers whether it does. The
+    /// frame is looked at first where it lies, so that a reader's is not copied.
     #[inline(always)]
-    fn resume_received(
-        &mut self,
-        prepared: &Prepared,
-        space: &Space,
-        target: Target,
-        end: NodeId,
-        count: u32,
-        base: usize,
-        value: Ref,
-    ) -> bool
+    fn resume_reader(&mut self, prepared: &Prepared, space: &Space, value: Ref) -> bool
         requires control { self.old.control ≡ Control.Give (Answer.Gave value) }
-        requires top { IsTop self.old.frames.items (Waiting.Receiver target end count base) }
         requires nested { IsNested (view_of self.old) }
         ensures goes { (h : Course) → remaining prepared.now.program (view_of self.old) space.now h ≡ remaining prepared.now.program (view_of self.new) space.now h }
         ensures nested { IsNested (view_of self.new) }
         ensures within { (clusters : Option Below) → AreReached (reach (length space.now.slots) clusters) (view_of self.old) → AreReached (reach (length space.now.slots) clusters) (view_of self.new) }
         ensures left { self.new.left ≡ self.old.left }
-        ensures kept { size (view_of self.new) ≤ size (view_of self.old) }
         ensures falls { IsTrue result → size (view_of self.new) < size (view_of self.old) }
+        ensures same { IsFalse result → self.new ≡ self.old }
     {
-        if let Target::Call(Callee::Name(name)) = target
-            && count == 0
-            && self.resume_reading(prepared, space, name, end, base, value)
-        {
-            return true;
+        match self.frames.last() {
+            Some(&Frame::Receiver(target, end, count, base)) => {
+                if let Target::Call(Callee::Name(name)) = target
+                    && count == 0
+                {
+                    return self.resume_reading(prepared, space, name, end, base, value);
+                }
+                false
+            }
+            _ => false,
         }
-        let frame = Frame::Receiver(target, end, count, base);
-        self.resume_listed(prepared, space, frame, value)
     }
 
     /// Gives the topmost frame a value, where it is such a frame and that is usual: it answers whether it was done.
@@ -410,6 +404,9 @@ impl Engine {
         let Control::Give(Answer::Gave(value)) = self.control else {
             return false;
         };
+        if self.resume_reader(prepared, space, value) {
+            return true;
+        }
         match self.frames.last() {
             Some(&Frame::Argument(target, end, count, base)) => match count {
                 1 => self.resume_one(prepared, space, target, end, base, value),
@@ -419,7 +416,8 @@ impl Engine {
                 }
             },
             Some(&Frame::Receiver(target, end, count, base)) => {
-                self.resume_received(prepared, space, target, end, count, base, value)
+                let frame = Frame::Receiver(target, end, count, base);
+                self.resume_listed(prepared, space, frame, value)
             }
             Some(&Frame::Item(target, end, count, base)) => {
                 let frame = Frame::Item(target, end, count, base);

@@ -1,5 +1,6 @@
 -- The new object is reached, or would be one too many.
 use Rattle.std.proofs.Common.{◌≡◌, [], ◌∷◌, None, Some, ap, length, subst, sym}
+use Rattle.std.proofs.lemmas.List.{append-nil}
 use Rattle.rr_eval.specs.declared.problem.Answer.TheVariants.{Gave}
 use Rattle.rr_eval.specs.Acts.{Passes}
 use Rattle.rr_eval.specs.Dispatch.{making}
@@ -10,7 +11,7 @@ use Rattle.rr_eval.specs.Views.{view_of}
 use Rattle.rr_eval.specs.Within.{reach}
 use Rattle.rr_eval.proofs.Holding.{ref_among, ref_within}
 use Rattle.rr_eval.proofs.Changing.{changes_trans}
-use Rattle.rr_eval.proofs.NewObjects.{cause_reached, making_passes, new_more, new_given, waiting_reached}
+use Rattle.rr_eval.proofs.NewObjects.{cause_reached, making_passes, new_more, new_given}
 use Rattle.rr_eval.proofs.engine.Engine.make_new.Goals as goal
 
 pub make_object-requires : goal.make_object-requires
@@ -18,46 +19,34 @@ make_object-requires c =
     let k = length c.args.space.now.slots in
     record { cause = ref_within k None c.args.cause (cause_reached (reach k None) (view_of c.args.self.now) c.args.class c.args.cause c.requires.control c.requires.within) }
 
-pub give_object-requires-clause-within : goal.give_object-requires-clause-within
-give_object-requires-clause-within c =
+pub give_new-requires-clause-within : goal.give_new-requires-clause-within
+give_new-requires-clause-within c =
     let t = c.args.space.now in
     let u = c.make_object.new.space in
     let lt = new_more (context_of c.args.prepared.now.program) c.args.class c.args.cause t u c.in-Ok.ensures.made in
-    new_given (length t.slots) (length u.slots) None (view_of c.args.self.now) c.pop.new.self.items (c.in-Some.frame ∷ []) c.in-Ok.object lt c.in-Some.ensures.items c.in-Ok.ensures.name c.requires.within
+    let m = view_of c.args.self.now in
+    new_given (length t.slots) (length u.slots) None m m.frames [] c.in-Ok.object lt (sym (append-nil m.frames)) c.in-Ok.ensures.name c.requires.within
 
-pub returns-in-Some-clause-within : goal.returns-in-Some-clause-within
-returns-in-Some-clause-within c clusters h =
+pub returns-clause-within : goal.returns-clause-within
+returns-clause-within c clusters h =
     let t = c.args.space.now in
     let u = c.make_object.new.space in
     let m = view_of c.args.self.now in
     let lt = new_more (context_of c.args.prepared.now.program) c.args.class c.args.cause t u c.in-Ok.ensures.made in
-    c.give_object.ensures.within clusters
-    (new_given (length t.slots) (length u.slots) clusters m c.pop.new.self.items (c.in-Some.frame ∷ []) c.in-Ok.object lt c.in-Some.ensures.items c.in-Ok.ensures.name h)
-    (waiting_reached (length t.slots) (length u.slots) clusters m c.pop.new.self.items c.in-Some.frame lt c.in-Some.ensures.items h)
+    c.give_new.ensures.within clusters (new_given (length t.slots) (length u.slots) clusters m m.frames [] c.in-Ok.object lt (sym (append-nil m.frames)) c.in-Ok.ensures.name h)
 
-pub returns-in-Some-clause-read : goal.returns-in-Some-clause-read
-returns-in-Some-clause-read c below read h =
+pub returns-clause-read : goal.returns-clause-read
+returns-clause-read c below read h =
     let t = c.args.space.now in
     let u = c.make_object.new.space in
+    let m = view_of c.args.self.now in
     let lt = new_more (context_of c.args.prepared.now.program) c.args.class c.args.cause t u c.in-Ok.ensures.made in
     let k = length t.slots in
-    c.give_object.ensures.read below (c.in-Ok.ensures.read below read (ref_among k below c.args.cause (cause_reached (reach k (Some below)) (view_of c.args.self.now) c.args.class c.args.cause c.requires.control h)))
-    (new_given (length t.slots) (length u.slots) (Some below) (view_of c.args.self.now) c.pop.new.self.items (c.in-Some.frame ∷ []) c.in-Ok.object lt c.in-Some.ensures.items c.in-Ok.ensures.name h)
+    c.give_new.ensures.read below (c.in-Ok.ensures.read below read (ref_among k below c.args.cause (cause_reached (reach k (Some below)) m c.args.class c.args.cause c.requires.control h)))
+    (new_given k (length u.slots) (Some below) m m.frames [] c.in-Ok.object lt (sym (append-nil m.frames)) c.in-Ok.ensures.name h)
 
-pub returns-in-Some-clause-changed : goal.returns-in-Some-clause-changed
-returns-in-Some-clause-changed c = changes_trans c.args.space.now c.make_object.new.space c.give_object.new.space c.in-Ok.ensures.changed c.give_object.ensures.changed
-
-pub returns-in-None-clause-within : goal.returns-in-None-clause-within
-returns-in-None-clause-within c clusters h =
-    let t = c.args.space.now in
-    let u = c.make_object.new.space in
-    let lt = new_more (context_of c.args.prepared.now.program) c.args.class c.args.cause t u c.in-Ok.ensures.made in
-    new_given (length t.slots) (length u.slots) clusters (view_of c.args.self.now) c.pop.new.self.items [] c.in-Ok.object lt c.in-None.ensures.items c.in-Ok.ensures.name h
-
-pub returns-in-None-clause-read : goal.returns-in-None-clause-read
-returns-in-None-clause-read c below read h =
-    let k = length c.args.space.now.slots in
-    c.in-Ok.ensures.read below read (ref_among k below c.args.cause (cause_reached (reach k (Some below)) (view_of c.args.self.now) c.args.class c.args.cause c.requires.control h))
+pub returns-clause-changed : goal.returns-clause-changed
+returns-clause-changed c = changes_trans c.args.space.now c.make_object.new.space c.give_new.new.space c.in-Ok.ensures.changed c.give_new.ensures.changed
 
 pub returns-in-Err-clause-full : goal.returns-in-Err-clause-full
 returns-in-Err-clause-full c = λ h adds.
