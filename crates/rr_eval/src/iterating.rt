@@ -113,15 +113,8 @@ pub fn own(space: &Space, value: Ref) -> Option<Ref>
     ensures within { (clusters : Option Below) → IsWithin (length space.now.slots) value → All (IsReached (reach (length space.now.slots) clusters)) (list_of result) }
 {
     match value {
-        Ref::Nil => Some(Ref::Nil),
-        Ref::False => Some(Ref::False),
-        Ref::True => Some(Ref::True),
-        Ref::Int(z) => Some(Ref::Int(z)),
-        Ref::Symbol(name) => Some(Ref::Symbol(name)),
-        Ref::Class(class) => Some(Ref::Class(class)),
-        Ref::Ractor(ractor) => Some(Ref::Ractor(ractor)),
-        Ref::Local(slot) => Some(Ref::Local(slot)),
         Ref::Shared(place, cluster) => known(space, cluster.number(), place),
+        _ => Some(value),
     }
 }
 
