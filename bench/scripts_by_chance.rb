@@ -262,11 +262,12 @@ def ours(program, file)
   Left.new(output, told.strip, status.exitstatus == 3)
 end
 
-# Nothing where it does not come to an end in ten seconds.
+# Nothing where it does not come to an end in ten seconds, or where CRuby's own compiler fails at what it has read.
 def theirs(file)
   return Left.new("", "", true) unless system(RbConfig.ruby, *FLAGS, "-c", file, out: File::NULL, err: File::NULL)
   output, told, status = Open3.capture3({ "STRICT" => "1" }, "timeout", "-s", "KILL", "10", RbConfig.ruby, *FLAGS, PROFILE, file)
-  Left.new(output, told.strip, false) unless status.exitstatus == 137 || status.signaled?
+  return if status.exitstatus == 137 || status.signaled? || told.include?("argument stack underflow")
+  Left.new(output, told.strip, false)
 end
 
 def same?(left, right) = left.refused == right.refused && (left.refused || (left.output == right.output && left.told == right.told))
