@@ -115,7 +115,8 @@ pub use prepared::Prepared;
 pub use problem::{Problem, Response};
 pub use request::Request;
 pub use run::{
-    Outcome, make_first, run_source, run_source_in_turns, run_source_leaving_objects, run_source_within,
+    Outcome, make_first, run_source, run_source_in_turns, run_source_leaving_objects,
+    run_source_within,
 };
 pub use setting::set_constant;
 pub use sharing::sharing_holds;

@@ -286,7 +286,7 @@ pub fn run_source_in_turns<W: Write>(
     }
 }
 
-/// Runs a script within the limits that hold where nothing else is asked for.
+/// Runs a script within the limits that hold where nothing else is asked for. The faults are those of `run_source_within`.
 pub fn run_source<W: Write>(
     alloc: Global,
     source: &[u8],
@@ -299,7 +299,8 @@ pub fn run_source<W: Write>(
 }
 
 /// Runs a script as `run_source` does, for a process that ends with it: its objects are left to the system, which takes them back at once,
-/// where to free one after the other takes a twentieth of the time of a script that makes many.
+/// where to free one after the other takes a twentieth of the time of a script that makes many. The faults are those of
+/// `run_source_within`.
 pub fn run_source_leaving_objects<W: Write>(
     alloc: Global,
     source: &[u8],

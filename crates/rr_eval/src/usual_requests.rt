@@ -388,8 +388,8 @@ impl Engine {
         }
     }
 
-    /// Asks for a call of a built-in method, where a node is one whose receiver and arguments need no frame, and the steps do not stop
-    /// before.
+    /// Asks for a call of a built-in method, or for an assignment to an instance variable, where a node is one whose parts need no frame,
+    /// and the steps do not stop before.
     #[inline(always)]
     pub fn ask_call(
         &mut self,
