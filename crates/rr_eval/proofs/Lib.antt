@@ -79,3 +79,5 @@ pub mod Cleared
 pub mod Copied
 pub mod Specials
 pub mod CopiesFrozen
+pub mod Straightly
+pub mod StraightRounds

@@ -59,3 +59,5 @@ pub mod Counted
 pub mod Publishing
 pub mod Alone
 pub mod Runs
+pub mod Straight
+pub mod StraightRounds

@@ -132,7 +132,7 @@ impl Engine {
 
     /// The value of a chain that ends with the part at a place.
     #[inline(always)]
-    fn chained(
+    pub fn chained(
         &self,
         prepared: &Prepared,
         space: &Space,

@@ -1,6 +1,6 @@
 //! Programs that are ready to run.
 
-ghost use Rattle.std.specs.Prelude.{◌≡◌, ◌++◌, ◌∷◌, [], codes, map, None, Some, IfOk, IfSome, IsFalse, slice_index_or};
+ghost use Rattle.std.specs.Prelude.{◌≡◌, ◌≤◌, ◌++◌, ◌∷◌, [], codes, map, None, Some, IfOk, IfSome, IsFalse, slice_index_or};
 ghost use Rattle.rr_eval.specs.Above.{method_above};
 ghost use Rattle.std.specs.Option.{option_map};
 ghost use Rattle.rr_tree.specs.Tree.{tree_at};
@@ -22,6 +22,7 @@ ghost use Rattle.rr_eval.specs.Prepared.{AreInstances, AreKnown, AreKnown-prop, 
 ghost use Rattle.rr_eval.specs.Nodes.{AreEvaluated, AreEvaluated-prop, evaluated_tree, IsEvaluated};
 ghost use Rattle.rr_eval.specs.SimpleParts.{AreSimple, AreSimple-prop, IsSimple, links_of};
 ghost use Rattle.rr_eval.specs.Speaking.{symbol_asked};
+ghost use Rattle.rr_eval.specs.Straight.{AreStraight, AreStraight-prop, assigned_by};
 ghost use Rattle.rr_eval.specs.Turns.{context_of};
 
 use crate::asking::Saying;
@@ -36,6 +37,7 @@ use crate::plain_methods::{
 use crate::ractor_method::ractor_method;
 use crate::serve::method_of;
 use crate::simple_parts::{SimplePart, SimpleParts, simple_parts};
+use crate::straight::{Straight, StraightLoops, straight_loops};
 use rr_base::{ClassId, Sym};
 use rr_builtin::{
     BuiltInMethod, Iteration, Iterations, Methods, has, iterations_have_names, may_make,
@@ -95,6 +97,8 @@ pub struct Prepared {
     nodes: Vec<Node>,
     /// What its parts are.
     pub(crate) simple: SimpleParts,
+    /// The loops whose statements assign integers to local variables.
+    straight: StraightLoops,
     ghost finds: { IsTableOf program table } by { IsTableOf-prop program table },
     ghost operates: { AreSymbolsOf program operators },
     ghost speaks: { number_in to_s ≡ symbol_named program (codes "to_s") },
@@ -104,6 +108,7 @@ pub struct Prepared {
     ghost plains: { ArePlain (context_of program) plain.items } by { ArePlain-prop (context_of program) plain.items },
     ghost knows: { AreKnown (context_of program) instances.items } by { AreKnown-prop (context_of program) instances.items },
     ghost evaluates: { AreEvaluated program.nodes.items nodes.items } by { AreEvaluated-prop program.nodes.items nodes.items },
+    ghost straights: { AreStraight program.nodes.items straight.statements.items } by { AreStraight-prop program.nodes.items straight.statements.items },
     ghost simples: { AreSimple program simple.links.items simple.parts.items } by { AreSimple-prop program simple.links.items simple.parts.items },
 }
 
@@ -122,6 +127,7 @@ impl Prepared {
         let instances = known_instances(alloc, &program, &table, &operators, &methods)?;
         let nodes = evaluated_nodes(alloc, &program)?;
         let simple = simple_parts(alloc, &program, &plain)?;
+        let straight = straight_loops(alloc, &program, &simple)?;
         Ok(Prepared {
             program,
             table,
@@ -134,6 +140,7 @@ impl Prepared {
             instances,
             nodes,
             simple,
+            straight,
         })
     }
 
@@ -191,6 +198,29 @@ impl Prepared {
         match self.part(place) {
             Some(SimplePart::Other) | None => false,
             Some(_) => true,
+        }
+    }
+
+    /// Where the statements of the loop at a place begin, where they assign integers to local variables alone.
+    #[inline(always)]
+    pub(crate) fn straight_from(&self, place: NodeId) -> Option<u32> {
+        match self.straight.starts.get(place as usize) {
+            Some(&start) => start,
+            None => None,
+        }
+    }
+
+    /// The statement of a number, where it stands at a place.
+    #[inline(always)]
+    pub(crate) fn straight(&self, number: usize, place: NodeId) -> Option<Straight>
+        ensures assigns { IfSome result (λ s. assigned_by (tree_at self.now.program.nodes.items place) ≡ Some (s.variable, (tree_at self.now.program.nodes.items s.value, s.steps))) }
+        ensures few { IfSome result (λ s. s.steps ≤ 3) }
+    {
+        let statement = *self.straight.statements.get(number)?;
+        if statement.place == place {
+            Some(statement)
+        } else {
+            None
         }
     }
 

@@ -187,6 +187,10 @@ impl Engine {
     {
         self.take_top(Frame::Body(here), Answer::Gave(value));
         self.control.enter(here);
+        // A loop whose rounds need no frames is begun again as a whole.
+        if let Some(_) = prepared.straight_from(here) {
+            return;
+        }
         if self.left > stop {
             self.visit_again(prepared, space, here, stop);
         }

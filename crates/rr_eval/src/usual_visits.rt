@@ -152,7 +152,7 @@ impl Engine {
 
     /// Evaluates a loop.
     #[inline(always)]
-    fn visit_loop(
+    pub fn visit_loop(
         &mut self,
         prepared: &Prepared,
         space: &Space,
@@ -401,7 +401,12 @@ impl Engine {
                 until,
                 condition,
                 body,
-            } => self.visit_loop(prepared, space, here, until, condition, body, stop),
+            } => match prepared.straight_from(here) {
+                Some(from) => {
+                    self.visit_straight(prepared, space, here, until, condition, body, from, stop);
+                }
+                None => self.visit_loop(prepared, space, here, until, condition, body, stop),
+            },
             &Node::Sequence { first, count } => {
                 self.visit_statements(&prepared.program, here, first, count, stop);
             }

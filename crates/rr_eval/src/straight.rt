@@ -1,0 +1,212 @@
+//! Loops whose statements assign integers to local variables, read out of the program beforehand.
+
+ghost use Rattle.std.specs.Prelude.{◌≡◌, IfOk, IfSome};
+ghost use Rattle.rr_eval.specs.Straight.{AreStraight, IsStraight};
+
+use crate::call_stack::Variable;
+use crate::chains::Link;
+use crate::nodes::evaluated_node;
+use crate::simple_parts::{ApartPart, SimplePart, SimpleParts};
+use rr_tree::{Node, NodeId, Program};
+use std::alloc::{AllocError, Global};
+
+/// A statement that assigns the value of a part to a local variable: an assignment, or statements that clauses rescue and that are one.
+#[derive(Clone, Copy)]
+pub struct Straight {
+    /// Where the statement stands.
+    pub place: NodeId,
+    /// The variable that is assigned to.
+    pub variable: Variable,
+    /// Where the part stands whose value is assigned.
+    pub value: NodeId,
+    /// The steps of the statement beside those of the value.
+    pub steps: u64,
+}
+
+/// The loops of a program that have such statements alone.
+#[derive(Drop)]
+pub struct StraightLoops {
+    /// Where the statements of a loop begin among those of all, by the places of the program.
+    pub starts: Vec<Option<u32>>,
+    /// The statements, those of one loop side by side.
+    pub statements: Vec<Straight>,
+}
+
+/// The assignment that stands at a place alone, with the steps of what is around it, as a statement of another place.
+fn assignment_at(program: &Program, place: NodeId) -> Option<Straight>
+    ensures place { IfSome result (λ s. s.place ≡ place) }
+    ensures is { IfSome result (IsStraight program.now.nodes.items) }
+{
+    match evaluated_node(program, place) {
+        Node::Assign {
+            depth,
+            slot,
+            value,
+            ..
+        } => Some(Straight {
+            place,
+            variable: Variable { depth, slot },
+            value,
+            steps: 1,
+        }),
+        _ => None,
+    }
+}
+
+/// The statement at a place that clauses rescue, where it is one assignment and nothing follows where nothing is raised.
+fn rescued_at(program: &Program, place: NodeId) -> Option<Straight>
+    ensures place { IfSome result (λ s. s.place ≡ place) }
+    ensures is { IfSome result (IsStraight program.now.nodes.items) }
+{
+    let Node::Rescue {
+        body,
+        otherwise,
+        ..
+    } = evaluated_node(program, place)
+    else {
+        return None;
+    };
+    let Node::Nil = evaluated_node(program, otherwise) else {
+        return None;
+    };
+    let Node::Sequence { first, count: 1 } = evaluated_node(program, body) else {
+        return None;
+    };
+    match evaluated_node(program, first) {
+        Node::Assign {
+            depth,
+            slot,
+            value,
+            ..
+        } => Some(Straight {
+            place,
+            variable: Variable { depth, slot },
+            value,
+            steps: 3,
+        }),
+        _ => None,
+    }
+}
+
+/// The statement at a place, where it is such a one.
+fn straight_at(program: &Program, place: NodeId) -> Option<Straight>
+    ensures place { IfSome result (λ s. s.place ≡ place) }
+    ensures is { IfSome result (IsStraight program.now.nodes.items) }
+{
+    match assignment_at(program, place) {
+        Some(statement) => Some(statement),
+        None => rescued_at(program, place),
+    }
+}
+
+/// Whether a part is taken for an integer for which no function of its own is called.
+fn is_plain(simple: &SimpleParts, place: NodeId) -> bool {
+    match simple.parts.get(place as usize) {
+        Some(SimplePart::Variable(_)) => true,
+        Some(SimplePart::Int(_)) => true,
+        Some(SimplePart::WithInt(_, _, _)) => true,
+        Some(SimplePart::WithVariable(_, _, _)) => true,
+        _ => false,
+    }
+}
+
+/// Whether the right operands of links are taken for such integers.
+fn are_plain(simple: &SimpleParts, links: &[Link]) -> bool {
+    let mut rest = links;
+    while let [link, more @ ..] = rest {
+        if !is_plain(simple, link.right) {
+            return false;
+        }
+        rest = more;
+    }
+    true
+}
+
+/// Whether a part is taken for an integer.
+fn is_integer(simple: &SimpleParts, place: NodeId) -> bool {
+    match simple.parts.get(place as usize) {
+        Some(&SimplePart::Apart(ApartPart::Chain(chain))) => {
+            let from = chain.from as usize;
+            match simple.links.get(from..from + chain.count as usize) {
+                Some(links) => is_plain(simple, chain.first) && are_plain(simple, links),
+                None => false,
+            }
+        }
+        _ => is_plain(simple, place),
+    }
+}
+
+/// Puts the statements of a list behind the others, up to one that is no such statement: it answers whether there is none. The only fault is
+/// want of memory.
+fn put_statements(
+    program: &Program,
+    simple: &SimpleParts,
+    statements: &mut Vec<Straight>,
+    end: NodeId,
+    count: u32,
+) -> Result<bool, AllocError>
+    requires { AreStraight program.now.nodes.items statements.old.items }
+    ensures { IfOk result (λ _. AreStraight program.now.nodes.items statements.new.items) }
+{
+    let mut rest = count;
+    while rest > 0 {
+        match straight_at(program, end.saturating_sub(rest)) {
+            Some(statement) if is_integer(simple, statement.value) => statements.push(statement)?,
+            _ => return Ok(false),
+        }
+        rest -= 1;
+    }
+    Ok(true)
+}
+
+/// Where the statements of the loop at a place begin, where it is such a loop: they are put behind the others. The only fault is want of
+/// memory.
+fn put_loop(
+    program: &Program,
+    simple: &SimpleParts,
+    statements: &mut Vec<Straight>,
+    place: NodeId,
+) -> Result<Option<u32>, AllocError>
+    requires { AreStraight program.now.nodes.items statements.old.items }
+    ensures { IfOk result (λ _. AreStraight program.now.nodes.items statements.new.items) }
+{
+    let Ok(start) = u32::try_from(statements.len()) else {
+        return Ok(None);
+    };
+    let Node::Loop { body, .. } = evaluated_node(program, place) else {
+        return Ok(None);
+    };
+    let Node::Sequence { first, count } = evaluated_node(program, body) else {
+        return Ok(None);
+    };
+    match put_statements(
+        program,
+        simple,
+        statements,
+        first.saturating_add(count),
+        count,
+    )? {
+        true => Ok(Some(start)),
+        false => Ok(None),
+    }
+}
+
+/// The loops of a program that have such statements alone. The only fault is want of memory.
+pub fn straight_loops(
+    alloc: Global,
+    program: &Program,
+    simple: &SimpleParts,
+) -> Result<StraightLoops, AllocError>
+    ensures { IfOk result (λ loops. AreStraight program.now.nodes.items loops.statements.items) }
+{
+    let mut starts = Vec::new(alloc);
+    let mut statements = Vec::new(alloc);
+    for number in 0..program.nodes.len() {
+        let Ok(place) = u32::try_from(number) else {
+            return Ok(StraightLoops { starts, statements });
+        };
+        let start = put_loop(program, simple, &mut statements, place)?;
+        starts.push(start)?;
+    }
+    Ok(StraightLoops { starts, statements })
+}

@@ -1,0 +1,364 @@
+//! Rounds of loops whose statements assign to local variables: they are done one after the other, without frames.
+
+ghost use Rattle.std.specs.Prelude.{◌≡◌, ◌+◌, ◌*◌, ◌<◌, ◌≤◌, ◌^◌, ℕ, [], ◌∷◌, ◌++◌, length, vec_capacity, Option, IfSome, IfNone, IsTrue, IsFalse};
+ghost use Rattle.rr_space.specs.Tables.{Table, Below};
+ghost use Rattle.rr_tree.specs.Nodes.{trees_before};
+ghost use Rattle.rr_tree.specs.Tree.{tree_at};
+ghost use Rattle.rr_tree.specs.declared.node.Node.{Node};
+ghost use Rattle.rr_tree.specs.declared.program.Program.{Program};
+ghost use Rattle.rr_eval.specs.declared.frame.Control.{Control};
+ghost use Rattle.rr_eval.specs.declared.frame.Frame.{Frame};
+ghost use Rattle.rr_eval.specs.Nodes.{evaluated_tree};
+ghost use Rattle.rr_eval.specs.Requests.{Course};
+ghost use Rattle.rr_eval.specs.Rules.{statements};
+ghost use Rattle.rr_eval.specs.StraightRounds.{SetsNow, SetFirst, Rounded, IsDone, goes_again};
+ghost use Rattle.rr_eval.specs.Turns.{IsNested, remaining, remaining_with, after_script, power, size};
+ghost use Rattle.rr_eval.specs.Usual.{TakesNow};
+ghost use Rattle.rr_eval.specs.View.{View};
+ghost use Rattle.rr_eval.specs.Views.{view_of};
+ghost use Rattle.rr_eval.specs.Within.{Reach, reach, IsReached, AreReached};
+
+use crate::engine::Engine;
+use crate::frame::{Control, Frame};
+use crate::prepared::Prepared;
+use crate::problem::Answer;
+use crate::simple_parts::{ApartPart, SimplePart};
+use crate::usual::Quick;
+use crate::value::goes_on;
+use rr_space::{Ref, Space};
+use rr_tree::{Node, NodeId};
+
+/// How a round of a loop went.
+#[derive(Clone, Copy)]
+pub enum Round {
+    /// All its statements are done, and the loop comes next again.
+    Again,
+    /// The condition ended the loop.
+    Over,
+    /// So many of its statements, the last ones, are still to be done.
+    Unfinished(u32),
+    /// Nothing was done: the steps may not suffice, or the condition needs a frame.
+    Stopped,
+}
+
+/// How far statements are done.
+#[derive(Clone, Copy)]
+pub struct DoneStatements {
+    /// How many are still to be done, the last ones.
+    pub rest: u32,
+    /// The steps that the others took.
+    pub steps: u64,
+    /// The value of the last one of these.
+    pub value: Ref,
+}
+
+/// More steps than a statement takes, or a condition with what is around it.
+const STEPS: u64 = 40;
+
+impl Engine {
+    /// The value of a part that is taken for an integer. Chains are evaluated in place, and not behind a call as elsewhere.
+    #[inline(always)]
+    fn integer(&self, prepared: &Prepared, space: &Space, place: NodeId) -> Option<Quick>
+        ensures takes { IfSome result (λ q. TakesNow prepared.now.program (view_of self.now) space.now (tree_at prepared.now.program.nodes.items place) q.steps q.value) }
+        ensures few { IfSome result (λ q. q.steps ≤ 31) }
+        ensures within { (clusters : Option Below) → AreReached (reach (length space.now.slots) clusters) (view_of self.now) → IfSome result (λ q. IsReached (reach (length space.now.slots) clusters) q.value) }
+    {
+        match prepared.part(place) {
+            Some(&SimplePart::Apart(ApartPart::Chain(chain))) => {
+                self.chained(prepared, space, place, chain)
+            }
+            _ => self.quick_simple(prepared, place),
+        }
+    }
+
+    /// Does the statement of a number, which stands at a place, where its value needs no frame.
+    #[inline(always)]
+    fn do_statement(
+        &mut self,
+        prepared: &Prepared,
+        space: &Space,
+        number: usize,
+        place: NodeId,
+    ) -> Option<Quick>
+        ensures sets { IfSome result (λ q. SetsNow prepared.now.program (view_of self.old) space.now (tree_at prepared.now.program.nodes.items place) q.steps q.value (view_of self.new)) }
+        ensures few { IfSome result (λ q. q.steps ≤ 34) }
+        ensures within { (clusters : Option Below) → AreReached (reach (length space.now.slots) clusters) (view_of self.old) → AreReached (reach (length space.now.slots) clusters) (view_of self.new) }
+        ensures others { self.new ≡ record self.old { calls = self.new.calls } }
+        ensures none { IfNone result (self.new ≡ self.old) }
+    {
+        let statement = prepared.straight(number, place)?;
+        let found = self.integer(prepared, space, statement.value)?;
+        self.calls.write(statement.variable, found.value);
+        Some(Quick {
+            value: found.value,
+            steps: found.steps + statement.steps,
+        })
+    }
+
+    /// Does the `count` statements from `first` on, which are those from a number on, up to one whose value needs a frame.
+    #[inline(always)]
+    fn do_statements(
+        &mut self,
+        prepared: &Prepared,
+        space: &Space,
+        from: usize,
+        first: NodeId,
+        count: u32,
+    ) -> DoneStatements
+        requires small { first + count < 2 ^ 32 }
+        requires numbers { from < 2 ^ 32 }
+        ensures sets { SetFirst prepared.now.program (view_of self.old) space.now (first + count) count result.rest result.steps result.value (view_of self.new) }
+        ensures fewer { result.rest ≤ count }
+        ensures few { result.steps ≤ 34 * count }
+        ensures within { (clusters : Option Below) → AreReached (reach (length space.now.slots) clusters) (view_of self.old) → AreReached (reach (length space.now.slots) clusters) (view_of self.new) }
+        ensures others { self.new ≡ record self.old { calls = self.new.calls } }
+    {
+        let mut done = 0;
+        let mut steps = 0;
+        let mut value = Ref::Nil;
+        while done < count {
+            match self.do_statement(prepared, space, from + done as usize, first + done) {
+                Some(set) => {
+                    steps += set.steps;
+                    value = set.value;
+                    done += 1;
+                }
+                None => break,
+            }
+        }
+        DoneStatements {
+            rest: count - done,
+            steps,
+            value,
+        }
+    }
+
+    /// One round of a loop, which comes next, where more steps than a number are left. Its body has these statements.
+    #[inline(always)]
+    fn go_straight(
+        &mut self,
+        prepared: &Prepared,
+        space: &Space,
+        here: NodeId,
+        until: bool,
+        condition: NodeId,
+        body: NodeId,
+        from: usize,
+        first: NodeId,
+        count: u32,
+        floor: u64,
+    ) -> Round
+        requires control { self.old.control ≡ Control.Enter here }
+        requires tree { tree_at prepared.now.program.nodes.items here ≡ evaluated_tree prepared.now.program.nodes.items (Node.Loop until condition body) }
+        requires list { tree_at prepared.now.program.nodes.items body ≡ evaluated_tree prepared.now.program.nodes.items (Node.Sequence first count) }
+        requires small { first + count < 2 ^ 32 }
+        requires numbers { from < 2 ^ 32 }
+        requires floor { 40 * (count + 1) ≤ floor }
+        ensures goes { Rounded prepared.now.program (view_of self.old) space.now here (first + count) result (view_of self.new) }
+        ensures within { (clusters : Option Below) → AreReached (reach (length space.now.slots) clusters) (view_of self.old) → AreReached (reach (length space.now.slots) clusters) (view_of self.new) }
+        ensures others { self.new ≡ record self.old { calls = self.new.calls; left = self.new.left } }
+        ensures enough { floor < self.old.left → floor < self.new.left + 40 * (count + 1) }
+        ensures kept { self.new.left ≤ self.old.left }
+        ensures spends { IsDone result → self.new.left < self.old.left }
+    {
+        if self.left <= floor {
+            return Round::Stopped;
+        }
+        let Some(tested) = self.quick_simple(prepared, condition) else {
+            return Round::Stopped;
+        };
+        if !goes_on(until, tested.value) {
+            self.left -= tested.steps + 1;
+            return Round::Over;
+        }
+        let done = self.do_statements(prepared, space, from, first, count);
+        self.left -= done.steps + tested.steps + 2;
+        match done.rest {
+            0 => Round::Again,
+            rest => Round::Unfinished(rest),
+        }
+    }
+
+    /// Rounds of a loop, which comes next, one after the other, up to one that is not done wholly.
+    #[inline(never)]
+    fn run_straight(
+        &mut self,
+        prepared: &Prepared,
+        space: &Space,
+        here: NodeId,
+        until: bool,
+        condition: NodeId,
+        body: NodeId,
+        from: usize,
+        first: NodeId,
+        count: u32,
+        floor: u64,
+    ) -> Round
+        requires control { self.old.control ≡ Control.Enter here }
+        requires tree { tree_at prepared.now.program.nodes.items here ≡ evaluated_tree prepared.now.program.nodes.items (Node.Loop until condition body) }
+        requires list { tree_at prepared.now.program.nodes.items body ≡ evaluated_tree prepared.now.program.nodes.items (Node.Sequence first count) }
+        requires small { first + count < 2 ^ 32 }
+        requires numbers { from < 2 ^ 32 }
+        requires floor { 40 * (count + 1) ≤ floor }
+        requires some { floor < self.old.left }
+        ensures goes { Rounded prepared.now.program (view_of self.old) space.now here (first + count) result (view_of self.new) }
+        ensures within { (clusters : Option Below) → AreReached (reach (length space.now.slots) clusters) (view_of self.old) → AreReached (reach (length space.now.slots) clusters) (view_of self.new) }
+        ensures others { self.new ≡ record self.old { calls = self.new.calls; left = self.new.left } }
+        ensures enough { floor < self.new.left + 40 * (count + 1) }
+        ensures kept { self.new.left ≤ self.old.left }
+        ensures spends { IsDone result → self.new.left < self.old.left }
+    {
+        loop {
+            let gone = self.go_straight(
+                prepared, space, here, until, condition, body, from, first, count, floor,
+            );
+            if !goes_again(gone) || self.left <= floor {
+                return gone;
+            }
+        }
+    }
+
+    /// Goes on with the last `rest` statements of a loop's body before `end`, over which its frame is put.
+    #[tactic(auto, unfolding(crate::specs::Within::AreReached))]
+    fn begin_rest(&mut self, here: NodeId, end: NodeId, rest: u32)
+        requires room { length self.old.frames.items + 1 < vec_capacity self.old.frames }
+        requires nested { IsNested (view_of self.old) }
+        ensures goes { (p : Program) (t : Table) (h : Course) (n : ℕ) → after_script p (record (view_of self.old) { frames = self.old.frames.items ++ Frame.Body here ∷ [] }) t (statements (trees_before p.nodes.items end rest)) h n ≡ remaining_with p (view_of self.new) t h n }
+        ensures nested { IsNested (view_of self.new) }
+        ensures within { (k : Reach) → AreReached k (view_of self.old) → AreReached k (view_of self.new) }
+        ensures left { self.new.left ≡ self.old.left }
+        ensures size { size (view_of self.new) ≤ 3 * length self.old.frames.items + 7 }
+    {
+        push_below(&mut self.frames, Frame::Body(here));
+        self.begin(end, rest);
+    }
+
+    /// Goes on behind rounds of a loop, where the last one was done in part or ended it: it answers whether it was.
+    #[inline(always)]
+    fn end_straight(&mut self, here: NodeId, end: NodeId, gone: Round) -> bool
+        requires room { length self.old.frames.items + 1 < vec_capacity self.old.frames }
+        requires nested { IsNested (view_of self.old) }
+        ensures goes { (p : Program) (m : View) (t : Table) (h : Course) → Rounded p m t here end gone (view_of self.old) → remaining p m t h ≡ remaining p (view_of self.new) t h }
+        ensures done { IsTrue result → IsDone gone }
+        ensures same { IsFalse result → self.new ≡ self.old }
+        ensures nested { IsNested (view_of self.new) }
+        ensures within { (k : Reach) → AreReached k (view_of self.old) → AreReached k (view_of self.new) }
+        ensures left { self.new.left ≡ self.old.left }
+        ensures size { IsTrue result → size (view_of self.new) ≤ 3 * length self.old.frames.items + 7 }
+    {
+        match gone {
+            Round::Over => {
+                self.control = Control::Give(Answer::Gave(Ref::Nil));
+                true
+            }
+            Round::Unfinished(rest) => {
+                self.begin_rest(here, end, rest);
+                true
+            }
+            _ => false,
+        }
+    }
+
+    /// Does rounds of a loop whose statements are those from a number on, as far as there is room for two frames and the steps suffice for
+    /// a whole round, and goes on with what is left of one: it answers whether the loop does not come next.
+    #[inline(always)]
+    fn try_straight(
+        &mut self,
+        prepared: &Prepared,
+        space: &Space,
+        here: NodeId,
+        until: bool,
+        condition: NodeId,
+        body: NodeId,
+        from: u32,
+        stop: u64,
+    ) -> bool
+        requires control { self.old.control ≡ Control.Enter here }
+        requires tree { tree_at prepared.now.program.nodes.items here ≡ evaluated_tree prepared.now.program.nodes.items (Node.Loop until condition body) }
+        requires some { stop < self.old.left }
+        requires nested { IsNested (view_of self.old) }
+        ensures goes { (h : Course) → remaining prepared.now.program (view_of self.old) space.now h ≡ remaining prepared.now.program (view_of self.new) space.now h }
+        ensures nested { IsNested (view_of self.new) }
+        ensures within { (clusters : Option Below) → AreReached (reach (length space.now.slots) clusters) (view_of self.old) → AreReached (reach (length space.now.slots) clusters) (view_of self.new) }
+        ensures left { stop < self.new.left }
+        ensures kept { self.new.left ≤ self.old.left }
+        ensures spends { IsTrue result → self.new.left < self.old.left }
+        ensures size { IsTrue result → size (view_of self.new) ≤ 3 * length self.old.frames.items + 7 }
+        ensures control { IsFalse result → self.new.control ≡ Control.Enter here }
+        ensures frames { IsFalse result → self.new.frames ≡ self.old.frames }
+    {
+        let Some(&Node::Sequence { first, count }) = prepared.node(body) else {
+            return false;
+        };
+        let round = STEPS * (count as u64 + 1);
+        if self.frames.len() + 1 >= self.frames.capacity() || self.left - stop <= round {
+            return false;
+        }
+        let gone = self.run_straight(
+            prepared,
+            space,
+            here,
+            until,
+            condition,
+            body,
+            from as usize,
+            first,
+            count,
+            stop + round,
+        );
+        self.end_straight(here, first + count, gone)
+    }
+
+    /// Evaluates a loop whose statements are those from a number on.
+    #[cold]
+    #[inline(never)]
+    pub fn visit_straight(
+        &mut self,
+        prepared: &Prepared,
+        space: &Space,
+        here: NodeId,
+        until: bool,
+        condition: NodeId,
+        body: NodeId,
+        from: u32,
+        stop: u64,
+    )
+        requires control { self.old.control ≡ Control.Enter here }
+        requires tree { tree_at prepared.now.program.nodes.items here ≡ evaluated_tree prepared.now.program.nodes.items (Node.Loop until condition body) }
+        requires some { stop < self.old.left }
+        requires room { length self.old.frames.items < vec_capacity self.old.frames }
+        requires nested { IsNested (view_of self.old) }
+        ensures goes { (h : Course) → remaining prepared.now.program (view_of self.old) space.now h ≡ remaining prepared.now.program (view_of self.new) space.now h }
+        ensures nested { IsNested (view_of self.new) }
+        ensures within { (clusters : Option Below) → AreReached (reach (length space.now.slots) clusters) (view_of self.old) → AreReached (reach (length space.now.slots) clusters) (view_of self.new) }
+        ensures left { stop ≤ self.new.left }
+        ensures spends { self.new.left < self.old.left }
+        ensures falls { power (view_of self.new) + self.old.left ≤ power (view_of self.old) + self.new.left }
+    {
+        if self.try_straight(prepared, space, here, until, condition, body, from, stop) {
+            return;
+        }
+        self.visit_loop(prepared, space, here, until, condition, body, stop);
+    }
+}
+
+/// Whether the loop comes next again behind a round that was done.
+#[inline(always)]
+fn goes_again(gone: Round) -> bool
+    ensures { result ≡ goes_again gone }
+{
+    match gone {
+        Round::Again => true,
+        _ => false,
+    }
+}
+
+/// One more item, where there is room for another one over it.
+#[inline(always)]
+fn push_below<T: Drop>(items: &mut Vec<T>, item: T)
+    requires { length items.old.items + 1 < vec_capacity items.old }
+    ensures pushed { items.new.items ≡ items.old.items ++ item ∷ [] }
+    ensures room { length items.new.items < vec_capacity items.new }
+{
+    items.push_reserved(item);
+}
