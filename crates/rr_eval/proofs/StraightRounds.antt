@@ -6,7 +6,8 @@ use Rattle.rr_space.specs.Tables.{Table}
 use Rattle.rr_space.specs.declared.refer.Ref.{Ref}
 use Rattle.rr_space.specs.declared.refer.Ref.TheVariants.{Nil}
 use Rattle.rr_tree.specs.Nodes.{trees_before}
-use Rattle.rr_tree.specs.Tree.{Tree, Trees, nil, assign, rescue, sequence, empty, then_one, listed, tree_at}
+use Rattle.rr_tree.specs.Tree.{Tree, Trees, nil, local, binary, assign, operator_assign, rescue, sequence, empty, then_one, listed, tree_at}
+use Rattle.rr_tree.specs.declared.node.BinaryOperator.{BinaryOperator}
 use Rattle.rr_tree.specs.declared.node.Node.TheVariants.{Loop}
 use Rattle.rr_tree.specs.declared.program.Program.{Program}
 use Rattle.rr_eval.specs.declared.call_stack.Variable.{Variable as Local}
@@ -18,7 +19,8 @@ use Rattle.rr_eval.specs.declared.problem.Answer.TheVariants.{Gave}
 use Rattle.rr_eval.specs.Frames.{Code, means, runs_in, resumed, start, unwind}
 use Rattle.rr_eval.specs.Nodes.{evaluated_tree}
 use Rattle.rr_eval.specs.Requests.{Course}
-use Rattle.rr_eval.specs.Rules.{rule, on_value, in_loop, loop_rule, turn_rule, statements, write, items}
+use Rattle.rr_eval.specs.Context.{Context}
+use Rattle.rr_eval.specs.Rules.{rule, operation, on_value, in_loop, loop_rule, turn_rule, statements, write, items}
 use Rattle.rr_eval.specs.Rescuing.{rescue_rule}
 use Rattle.rr_eval.specs.Script.{State, World, Go, Ret, Ended, Outcome, after}
 use Rattle.rr_eval.specs.Straight.{assigned_by}
@@ -26,10 +28,11 @@ use Rattle.rr_eval.specs.StraightRounds.{SetsNow, SetFirst, left_over}
 use Rattle.rr_eval.specs.Turns.{context_of, code_of, state_of, blocks_of, remaining, after_script}
 use Rattle.rr_eval.specs.Usual.{TakesNow}
 use Rattle.rr_eval.specs.Values.{goes_on}
-use Rattle.rr_eval.specs.Variables.{write_variable}
+use Rattle.rr_eval.specs.Variables.{read_variable, write_variable}
 use Rattle.rr_eval.specs.View.{View}
 use Rattle.rr_eval.proofs.Depth.{meaning_rule}
-use Rattle.rr_eval.proofs.Quickly.{under}
+use Rattle.rr_eval.proofs.Quickly.{leaf_takes, under}
+use Rattle.rr_eval.proofs.Simply.{operation_takes}
 use Rattle.rr_eval.proofs.Trees.{items_listed}
 use Rattle.rr_eval.proofs.Unwind.{asking_frame, part_only}
 
@@ -47,6 +50,22 @@ assignment_sets p m t depth slot x behind steps a v takes = λ h i.
     ap (means c tree s) sum
     ∙ meaning_rule (context_of p) h.world tree s (steps + i)
     ∙ ap (λ o. after o (λ (r : Answer). runs_in c (on_value (λ w. write (record { depth = depth; slot = slot }) w) r))) (takes h i)
+
+-- an assignment with an operator, both operands of which are known
+pub update_sets : (p : Program) (m : View) (t : Table) (op : BinaryOperator) (depth slot x behind steps all : ℕ) (tree a b : Tree) (v w total : Ref) → tree ≡ operator_assign op a b → a ≡ local depth slot x behind → v ≡ read_variable (record { depth = depth; slot = slot }) m.calls.frames → TakesNow p m t b steps w
+    → ((c : Context) → operation c op v w ≡ Ret (Gave total)) → all ≡ steps + 3 → SetsNow p m t tree all total (assigned (record { depth = depth; slot = slot }) total m)
+update_sets p m t op depth slot x behind steps all tree a b v w total is at reads takes gives sum = λ h i.
+    let c = code_of p h.world in
+    let s = state_of p m t h in
+    let target = local depth slot x behind in
+    let own = operator_assign op target b in
+    let left : TakesNow p m t target 1 v = leaf_takes p m t target v (ap Some (sym reads)) in
+    let both = operation_takes p m t op target b 1 steps v w total left takes gives in
+    let one : all + i ≡ suc (1 + steps + 1 + i) = omega (arith, sum) in
+    ap (λ z. means c z s (all + i)) (is ∙ ap (λ z. operator_assign op z b) at)
+    ∙ ap (means c own s) one
+    ∙ meaning_rule (context_of p) h.world own s (1 + steps + 1 + i)
+    ∙ ap (λ o. after o (λ (r : Answer). runs_in c (on_value (λ z. write (record { depth = depth; slot = slot }) z) r))) (both h i)
 
 -- statements that clauses rescue, and that are one which is known
 rescued_sets : (p : Program) (m n : View) (t : Table) (steps : ℕ) (clauses : Trees) (a : Tree) (v : Ref) → SetsNow p m t a (steps + 1) v n → SetsNow p m t (rescue (sequence (then_one empty a)) clauses nil) (steps + 3) v n
@@ -66,6 +85,13 @@ rescued_sets p m n t steps clauses a v sets = λ h i.
 abbrev inside : Option (Local × (Tree × ℕ)) → Local × (Tree × ℕ) → Local × (Tree × ℕ)
 inside None other = other
 inside (Some found) other = found
+
+-- the frames that run are those that were written
+pub sets_calls : (p : Program) (m : View) (t : Table) (tree : Tree) (steps : ℕ) (x : Local) (v : Ref) (calls : Stack) → calls.frames ≡ write_variable x v m.calls.frames → calls.limit ≡ m.calls.limit → SetsNow p m t tree steps v (assigned x v m) → SetsNow p m t tree steps v (record m { calls = calls })
+sets_calls p m t tree steps x v calls frames limit sets =
+    let written = write_variable x v m.calls.frames in
+    let same : record m.calls { frames = written } ≡ calls = ap (λ l. record calls { frames = written; limit = l }) (sym limit) ∙ ap (λ f. record calls { frames = f }) (sym frames) in
+    subst (λ k. SetsNow p m t tree steps v (record m { calls = k })) same sets
 
 -- a statement whose value is known
 pub statement_sets : (p : Program) (m : View) (t : Table) (tree : Tree) (x : Local) (a : Tree) (around steps : ℕ) (v : Ref) → assigned_by tree ≡ Some (x, (a, around)) → TakesNow p m t a steps v → SetsNow p m t tree (steps + around) v (assigned x v m)

@@ -136,8 +136,40 @@ fn is_integer(simple: &SimpleParts, place: NodeId) -> bool {
     }
 }
 
-/// Puts the statements of a list behind the others, up to one that is no such statement: it answers whether there is none. The only fault is
-/// want of memory.
+/// Whether an assignment with an operator stands at a place, of a part that is taken for an integer to a local variable.
+fn is_update(program: &Program, simple: &SimpleParts, place: NodeId) -> bool {
+    match evaluated_node(program, place) {
+        Node::OperatorAssign(_, target, value) => match evaluated_node(program, target) {
+            Node::Local { .. } => is_plain(simple, value),
+            _ => false,
+        },
+        _ => false,
+    }
+}
+
+/// Puts the statement at a place behind the others, where it is an assignment, and passes over one with an operator, which is looked at when
+/// it is done: it answers whether it is one of them. The only fault is want of memory.
+fn put_statement(
+    program: &Program,
+    simple: &SimpleParts,
+    statements: &mut Vec<Straight>,
+    place: NodeId,
+) -> Result<bool, AllocError>
+    requires { AreStraight program.now.nodes.items statements.old.items }
+    ensures { IfOk result (λ _. AreStraight program.now.nodes.items statements.new.items) }
+{
+    let Some(statement) = straight_at(program, place) else {
+        return Ok(is_update(program, simple, place));
+    };
+    if !is_integer(simple, statement.value) {
+        return Ok(false);
+    }
+    statements.push(statement)?;
+    Ok(true)
+}
+
+/// Puts the assignments among the statements of a list behind the others, up to a statement that needs a frame: it answers whether there is
+/// none. The only fault is want of memory.
 fn put_statements(
     program: &Program,
     simple: &SimpleParts,
@@ -150,9 +182,8 @@ fn put_statements(
 {
     let mut rest = count;
     while rest > 0 {
-        match straight_at(program, end.saturating_sub(rest)) {
-            Some(statement) if is_integer(simple, statement.value) => statements.push(statement)?,
-            _ => return Ok(false),
+        if !put_statement(program, simple, statements, end.saturating_sub(rest))? {
+            return Ok(false);
         }
         rest -= 1;
     }

@@ -18,12 +18,13 @@ ghost use Rattle.rr_eval.specs.View.{View};
 ghost use Rattle.rr_eval.specs.Views.{view_of};
 ghost use Rattle.rr_eval.specs.Within.{Reach, reach, IsReached, AreReached};
 
+use crate::call_stack::Variable;
 use crate::engine::Engine;
 use crate::frame::{Control, Frame};
 use crate::prepared::Prepared;
 use crate::problem::Answer;
 use crate::simple_parts::{ApartPart, SimplePart};
-use crate::usual::Quick;
+use crate::usual::{Quick, operated};
 use crate::value::goes_on;
 use rr_space::{Ref, Space};
 use rr_tree::{Node, NodeId};
@@ -52,8 +53,17 @@ pub struct DoneStatements {
     pub value: Ref,
 }
 
+/// A statement that is done.
+#[derive(Clone, Copy)]
+pub struct Done {
+    pub value: Ref,
+    pub steps: u64,
+    /// The number of the next assignment.
+    pub number: usize,
+}
+
 /// More steps than a statement takes, or a condition with what is around it.
-const STEPS: u64 = 40;
+const STEPS: u64 = 70;
 
 impl Engine {
     /// The value of a part that is taken for an integer. Chains are evaluated in place, and not behind a call as elsewhere.
@@ -95,7 +105,66 @@ impl Engine {
         })
     }
 
-    /// Does the `count` statements from `first` on, which are those from a number on, up to one whose value needs a frame.
+    /// Does the statement that stands at a place, where it is an assignment with an operator to a local variable, and that and the other
+    /// operand, which needs no frame and no function of its own, are integers.
+    #[inline(always)]
+    fn do_update(&mut self, prepared: &Prepared, place: NodeId) -> Option<Quick>
+        ensures sets { (t : Table) → IfSome result (λ q. SetsNow prepared.now.program (view_of self.old) t (tree_at prepared.now.program.nodes.items place) q.steps q.value (view_of self.new)) }
+        ensures few { IfSome result (λ q. q.steps ≤ 34) }
+        ensures within { (k : Reach) → AreReached k (view_of self.old) → AreReached k (view_of self.new) }
+        ensures others { self.new ≡ record self.old { calls = self.new.calls } }
+        ensures none { IfNone result (self.new ≡ self.old) }
+    {
+        let Some(&Node::OperatorAssign(op, target, value)) = prepared.node(place) else {
+            return None;
+        };
+        let Some(&Node::Local { depth, slot, .. }) = prepared.node(target) else {
+            return None;
+        };
+        let variable = Variable { depth, slot };
+        let other = self.quick_simple(prepared, value)?;
+        let total = operated(op, self.variable(variable), other.value)?;
+        self.calls.write(variable, total);
+        Some(Quick {
+            value: total,
+            steps: other.steps + 3,
+        })
+    }
+
+    /// Does the statement that stands at a place, where it needs no frame: an assignment, which has a number then, or one with an operator.
+    #[inline(always)]
+    fn do_next(
+        &mut self,
+        prepared: &Prepared,
+        space: &Space,
+        number: usize,
+        place: NodeId,
+    ) -> Option<Done>
+        requires number { number < 2 ^ 40 }
+        ensures sets { IfSome result (λ d. SetsNow prepared.now.program (view_of self.old) space.now (tree_at prepared.now.program.nodes.items place) d.steps d.value (view_of self.new)) }
+        ensures few { IfSome result (λ d. d.steps ≤ 34) }
+        ensures number { IfSome result (λ d. d.number ≤ number + 1) }
+        ensures within { (clusters : Option Below) → AreReached (reach (length space.now.slots) clusters) (view_of self.old) → AreReached (reach (length space.now.slots) clusters) (view_of self.new) }
+        ensures others { self.new ≡ record self.old { calls = self.new.calls } }
+        ensures none { IfNone result (self.new ≡ self.old) }
+    {
+        if let Some(set) = self.do_statement(prepared, space, number, place) {
+            return Some(Done {
+                value: set.value,
+                steps: set.steps,
+                number: number + 1,
+            });
+        }
+        let set = self.do_update(prepared, place)?;
+        Some(Done {
+            value: set.value,
+            steps: set.steps,
+            number,
+        })
+    }
+
+    /// Does the `count` statements from `first` on, the assignments among which have the numbers from `from` on, up to one that needs a
+    /// frame.
     #[inline(always)]
     fn do_statements(
         &mut self,
@@ -116,15 +185,15 @@ impl Engine {
         let mut done = 0;
         let mut steps = 0;
         let mut value = Ref::Nil;
+        let mut number = from;
         while done < count {
-            match self.do_statement(prepared, space, from + done as usize, first + done) {
-                Some(set) => {
-                    steps += set.steps;
-                    value = set.value;
-                    done += 1;
-                }
-                None => break,
-            }
+            let Some(set) = self.do_next(prepared, space, number, first + done) else {
+                break;
+            };
+            steps += set.steps;
+            value = set.value;
+            number = set.number;
+            done += 1;
         }
         DoneStatements {
             rest: count - done,

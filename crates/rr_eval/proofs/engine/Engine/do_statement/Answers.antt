@@ -1,13 +1,10 @@
 -- The statement is an assignment whose value is known.
-use Rattle.std.proofs.Common.{◌≡◌, ◌+◌, ◌∙◌, ap, sym, subst, length}
-use Rattle.rr_frames.specs.Frames.{Stack}
+use Rattle.std.proofs.Common.{◌+◌, length}
 use Rattle.rr_tree.specs.Tree.{tree_at}
-use Rattle.rr_eval.specs.StraightRounds.{SetsNow}
-use Rattle.rr_eval.specs.Variables.{write_variable}
 use Rattle.rr_eval.specs.Views.{view_of}
 use Rattle.rr_eval.specs.Within.{reach, AreReached}
 use Rattle.rr_eval.proofs.Holding.{with_variable}
-use Rattle.rr_eval.proofs.StraightRounds.{statement_sets}
+use Rattle.rr_eval.proofs.StraightRounds.{sets_calls, statement_sets}
 use Rattle.rr_eval.proofs.engine.Engine.do_statement.Goals as goal
 
 pub returns-clause-sets : goal.returns-clause-sets
@@ -19,10 +16,7 @@ returns-clause-sets c =
     let statement = c.in_ok-statement.statement in
     let found = c.in_ok-found.found in
     let tree = tree_at ns c.args.place in
-    let calls = c.write.new.self in
-    let frames = write_variable statement.variable found.value m.calls.frames in
-    let same : record m.calls { frames = frames } ≡ calls = ap (λ l. record calls { frames = frames; limit = l }) (sym c.write.ensures.limit) ∙ ap (λ f. record calls { frames = f }) (sym c.write.ensures.frames) in
-    subst (λ k. SetsNow p m t tree (found.steps + statement.steps) found.value (record m { calls = k })) same
+    sets_calls p m t tree (found.steps + statement.steps) statement.variable found.value c.write.new.self c.write.ensures.frames c.write.ensures.limit
     (statement_sets p m t tree statement.variable (tree_at ns statement.value) statement.steps found.steps found.value c.in_ok-statement.ensures.assigns c.in_ok-found.ensures.takes)
 
 pub returns-clause-within : goal.returns-clause-within
