@@ -84,6 +84,8 @@ mod splats;
 #[cfg(test)]
 mod starting;
 #[cfg(test)]
+mod straight;
+#[cfg(test)]
 mod table;
 #[cfg(test)]
 mod targets;
