@@ -211,6 +211,7 @@ class Script
     when 33 then "#{goal}, #{goal}#{pick('', ", #{goal}")} = #{pick(atom, "#{atom}, #{expression}")}"
     when 34 then "#{place} #{pick('', '+', '*', '||', '&&', '<<')}= #{expression}"
     when 35 then otherwise
+    when 36, 37 then assigning_loop
     when 32 then @in_method ? "p(A)" : "#{pick('A', 'B')} ||= #{expression}"
     else "p(#{expression})"
     end
@@ -238,6 +239,20 @@ class Script
     "#{counter} = 0; while #{counter} < #{1 + any(3)}; #{counter} += 1; #{several(2)}; end"
   ensure
     @loops -= 1
+  end
+
+  # A loop that only assigns to local variables: its rounds need no frames as long as the values are integers.
+  def assigning_loop
+    counter = "i#{@counters += 1}"
+    round = [*Array.new(1 + any(3)) { assignment }, "#{counter} #{pick('+= 1', "= #{counter} + 1")}"]
+    "#{counter} = 0; #{pick("while #{counter} <", "until #{counter} >=")} #{1 + any(6)}; #{round.join('; ')}; end; p(#{pick(*NAMES)})"
+  end
+
+  def assignment
+    left, right, last = Array.new(3) { likely?(0.8) ? pick(*NAMES, any(9)) : atom }
+    first, second = Array.new(2) { pick('+', '-', '/', '%', '<', '==') }
+    set = pick("= #{left}", "= #{left} #{first} #{right}", "= #{left} #{first} #{right} #{second} #{last}", "#{pick('+', '-', '%')}= #{left}")
+    likely?(0.3) ? "begin; #{pick(*NAMES)} #{set}; rescue#{pick('', ' TypeError')} => e; p e.class; end" : "#{pick(*NAMES)} #{set}"
   end
 
   def guarded
