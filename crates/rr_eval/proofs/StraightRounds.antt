@@ -6,7 +6,7 @@ use Rattle.rr_space.specs.Tables.{Table}
 use Rattle.rr_space.specs.declared.refer.Ref.{Ref}
 use Rattle.rr_space.specs.declared.refer.Ref.TheVariants.{Nil}
 use Rattle.rr_tree.specs.Nodes.{trees_before}
-use Rattle.rr_tree.specs.Tree.{Tree, Trees, nil, local, binary, assign, operator_assign, rescue, sequence, empty, then_one, listed, tree_at}
+use Rattle.rr_tree.specs.Tree.{Tree, Trees, nil, local, binary, choose, assign, operator_assign, rescue, sequence, empty, then_one, listed, tree_at}
 use Rattle.rr_tree.specs.declared.node.BinaryOperator.{BinaryOperator}
 use Rattle.rr_tree.specs.declared.node.Node.TheVariants.{Loop}
 use Rattle.rr_tree.specs.declared.program.Program.{Program}
@@ -27,6 +27,7 @@ use Rattle.rr_eval.specs.Straight.{assigned_by}
 use Rattle.rr_eval.specs.StraightRounds.{SetsNow, SetFirst, left_over}
 use Rattle.rr_eval.specs.Turns.{context_of, code_of, state_of, blocks_of, remaining, after_script}
 use Rattle.rr_eval.specs.Usual.{TakesNow}
+use Rattle.rr_builtin.specs.Objects.{is_truthy}
 use Rattle.rr_eval.specs.Values.{goes_on}
 use Rattle.rr_eval.specs.Variables.{read_variable, write_variable}
 use Rattle.rr_eval.specs.View.{View}
@@ -41,7 +42,7 @@ abbrev pub assigned : Local → Ref → View → View
 assigned x v m = record m { calls = record m.calls { frames = write_variable x v m.calls.frames } }
 
 -- an assignment whose value is known
-assignment_sets : (p : Program) (m : View) (t : Table) (depth slot x behind steps : ℕ) (a : Tree) (v : Ref) → TakesNow p m t a steps v → SetsNow p m t (assign depth slot x behind a) (steps + 1) v (assigned (record { depth = depth; slot = slot }) v m)
+pub assignment_sets : (p : Program) (m : View) (t : Table) (depth slot x behind steps : ℕ) (a : Tree) (v : Ref) → TakesNow p m t a steps v → SetsNow p m t (assign depth slot x behind a) (steps + 1) v (assigned (record { depth = depth; slot = slot }) v m)
 assignment_sets p m t depth slot x behind steps a v takes = λ h i.
     let c = code_of p h.world in
     let s = state_of p m t h in
@@ -115,6 +116,39 @@ statement_sets p m t (rescue (sequence (then_one empty (assign depth slot y behi
     subst (λ k. SetsNow p m t all (steps + k) v (assigned x v m)) three
     (subst (λ z. SetsNow p m t all (steps + 3) v (assigned z v m)) variable done)
 statement_sets p m t _ x a around steps v e takes = absurd (cc e)
+
+-- a list of one statement that is known
+pub list_sets : (p : Program) (m n : View) (t : Table) (steps : ℕ) (tree a : Tree) (v : Ref) → tree ≡ sequence (listed (a ∷ [])) → SetsNow p m t a steps v n → SetsNow p m t tree (steps + 1) v n
+list_sets p m n t steps tree a v is sets = λ h i.
+    let c = code_of p h.world in
+    let s = state_of p m t h in
+    let own = sequence (listed (a ∷ [])) in
+    let sum : steps + 1 + i ≡ suc (steps + i) = omega arith in
+    ap (λ z. means c z s (steps + 1 + i)) is
+    ∙ ap (means c own s) sum
+    ∙ meaning_rule (context_of p) h.world own s (steps + i)
+    ∙ ap (λ o. after o (λ (r : Answer). runs_in c (Ret r))) (sets h i)
+
+-- nothing is chosen
+pub nil_sets : (p : Program) (m : View) (t : Table) (tree : Tree) → tree ≡ nil → SetsNow p m t tree 1 Nil m
+nil_sets p m t tree is = λ h i.
+    let c = code_of p h.world in
+    let s = state_of p m t h in
+    let one : 1 + i ≡ suc i = omega arith in
+    ap (λ z. means c z s (1 + i)) is ∙ ap (means c nil s) one ∙ meaning_rule (context_of p) h.world nil s i
+
+-- a choice, of which the part that is chosen is known
+pub choice_sets : (p : Program) (m n : View) (t : Table) (j k all : ℕ) (tree a b d : Tree) (v w : Ref) → tree ≡ choose a b d → TakesNow p m t a j v → SetsNow p m t (if is_truthy v then b else d) k w n → all ≡ j + k + 1 → SetsNow p m t tree all w n
+choice_sets p m n t j k all tree a b d v w is takes sets sum = λ h i.
+    let c = code_of p h.world in
+    let s = state_of p m t h in
+    let own = choose a b d in
+    let parts : all + i ≡ suc (j + (k + i)) = omega (arith, sum) in
+    ap (λ z. means c z s (all + i)) is
+    ∙ ap (means c own s) parts
+    ∙ meaning_rule (context_of p) h.world own s (j + (k + i))
+    ∙ ap (λ o. after o (λ (r : Answer). runs_in c (on_value (λ z. Go (if is_truthy z then b else d) Ret) r))) (takes h (k + i))
+    ∙ ap (λ o. after o (λ (r : Answer). runs_in c (Ret r))) (sets h i)
 
 -- none of the statements is done yet
 pub first_unset : (p : Program) (m : View) (t : Table) (end count : ℕ) → SetFirst p m t end count count 0 Nil m

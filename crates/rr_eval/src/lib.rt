@@ -81,6 +81,7 @@ mod spreading;
 mod starting;
 mod statements;
 mod straight;
+mod straight_statements;
 mod throw;
 mod update;
 mod updating;

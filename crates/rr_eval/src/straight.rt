@@ -136,6 +136,14 @@ fn is_integer(simple: &SimpleParts, place: NodeId) -> bool {
     }
 }
 
+/// Whether a part is taken for one that needs no frame.
+fn needs_no_frame(simple: &SimpleParts, place: NodeId) -> bool {
+    match simple.parts.get(place as usize) {
+        Some(SimplePart::Other) | None => false,
+        Some(_) => true,
+    }
+}
+
 /// Whether an assignment with an operator stands at a place, of a part that is taken for an integer to a local variable.
 fn is_update(program: &Program, simple: &SimpleParts, place: NodeId) -> bool {
     match evaluated_node(program, place) {
@@ -147,8 +155,37 @@ fn is_update(program: &Program, simple: &SimpleParts, place: NodeId) -> bool {
     }
 }
 
-/// Puts the statement at a place behind the others, where it is an assignment, and passes over one with an operator, which is looked at when
-/// it is done: it answers whether it is one of them. The only fault is want of memory.
+/// Whether an assignment of a part that is taken for an integer stands at a place, with an operator or without one.
+fn is_single(program: &Program, simple: &SimpleParts, place: NodeId) -> bool {
+    match evaluated_node(program, place) {
+        Node::Assign { value, .. } => is_integer(simple, value),
+        _ => is_update(program, simple, place),
+    }
+}
+
+/// Whether nothing stands at a place, or such an assignment, alone or as a list.
+fn is_part(program: &Program, simple: &SimpleParts, place: NodeId) -> bool {
+    match evaluated_node(program, place) {
+        Node::Nil => true,
+        Node::Sequence { first, count: 1 } => is_single(program, simple, first),
+        _ => is_single(program, simple, place),
+    }
+}
+
+/// Whether a choice stands at a place whose condition and parts need no frame.
+fn is_choice(program: &Program, simple: &SimpleParts, place: NodeId) -> bool {
+    match evaluated_node(program, place) {
+        Node::Choose(condition, yes, no) => {
+            needs_no_frame(simple, condition)
+                && is_part(program, simple, yes)
+                && is_part(program, simple, no)
+        }
+        _ => false,
+    }
+}
+
+/// Puts the statement at a place behind the others, where it is an assignment, and passes over one with an operator and a choice, which are
+/// looked at when they are done: it answers whether it is one of them. The only fault is want of memory.
 fn put_statement(
     program: &Program,
     simple: &SimpleParts,
@@ -159,7 +196,7 @@ fn put_statement(
     ensures { IfOk result (λ _. AreStraight program.now.nodes.items statements.new.items) }
 {
     let Some(statement) = straight_at(program, place) else {
-        return Ok(is_update(program, simple, place));
+        return Ok(is_update(program, simple, place) || is_choice(program, simple, place));
     };
     if !is_integer(simple, statement.value) {
         return Ok(false);
@@ -204,9 +241,17 @@ fn put_loop(
     let Ok(start) = u32::try_from(statements.len()) else {
         return Ok(None);
     };
-    let Node::Loop { body, .. } = evaluated_node(program, place) else {
+    let Node::Loop {
+        condition,
+        body,
+        ..
+    } = evaluated_node(program, place)
+    else {
         return Ok(None);
     };
+    if !needs_no_frame(simple, condition) {
+        return Ok(None);
+    }
     let Node::Sequence { first, count } = evaluated_node(program, body) else {
         return Ok(None);
     };

@@ -1,30 +1,26 @@
 //! Rounds of loops whose statements assign to local variables: they are done one after the other, without frames.
 
-ghost use Rattle.std.specs.Prelude.{◌≡◌, ◌+◌, ◌*◌, ◌<◌, ◌≤◌, ◌^◌, ℕ, [], ◌∷◌, ◌++◌, length, vec_capacity, Option, IfSome, IfNone, IsTrue, IsFalse};
+ghost use Rattle.std.specs.Prelude.{◌≡◌, ◌+◌, ◌*◌, ◌<◌, ◌≤◌, ◌^◌, ℕ, [], ◌∷◌, ◌++◌, length, vec_capacity, Option, IsTrue, IsFalse};
 ghost use Rattle.rr_space.specs.Tables.{Table, Below};
 ghost use Rattle.rr_tree.specs.Nodes.{trees_before};
 ghost use Rattle.rr_tree.specs.Tree.{tree_at};
-ghost use Rattle.rr_tree.specs.declared.node.Node.{Node};
+ghost use Rattle.rr_tree.specs.declared.node.Node.{Node as Nodes};
 ghost use Rattle.rr_tree.specs.declared.program.Program.{Program};
 ghost use Rattle.rr_eval.specs.declared.frame.Control.{Control};
 ghost use Rattle.rr_eval.specs.declared.frame.Frame.{Frame};
 ghost use Rattle.rr_eval.specs.Nodes.{evaluated_tree};
 ghost use Rattle.rr_eval.specs.Requests.{Course};
 ghost use Rattle.rr_eval.specs.Rules.{statements};
-ghost use Rattle.rr_eval.specs.StraightRounds.{SetsNow, SetFirst, Rounded, IsDone, goes_again};
+ghost use Rattle.rr_eval.specs.StraightRounds.{Rounded, IsDone, goes_again};
 ghost use Rattle.rr_eval.specs.Turns.{IsNested, remaining, remaining_with, after_script, power, size};
-ghost use Rattle.rr_eval.specs.Usual.{TakesNow};
 ghost use Rattle.rr_eval.specs.View.{View};
 ghost use Rattle.rr_eval.specs.Views.{view_of};
-ghost use Rattle.rr_eval.specs.Within.{Reach, reach, IsReached, AreReached};
+ghost use Rattle.rr_eval.specs.Within.{Reach, reach, AreReached};
 
-use crate::call_stack::Variable;
 use crate::engine::Engine;
 use crate::frame::{Control, Frame};
 use crate::prepared::Prepared;
 use crate::problem::Answer;
-use crate::simple_parts::{ApartPart, SimplePart};
-use crate::usual::{Quick, operated};
 use crate::value::goes_on;
 use rr_space::{Ref, Space};
 use rr_tree::{Node, NodeId};
@@ -42,166 +38,10 @@ pub enum Round {
     Stopped,
 }
 
-/// How far statements are done.
-#[derive(Clone, Copy)]
-pub struct DoneStatements {
-    /// How many are still to be done, the last ones.
-    pub rest: u32,
-    /// The steps that the others took.
-    pub steps: u64,
-    /// The value of the last one of these.
-    pub value: Ref,
-}
-
-/// A statement that is done.
-#[derive(Clone, Copy)]
-pub struct Done {
-    pub value: Ref,
-    pub steps: u64,
-    /// The number of the next assignment.
-    pub number: usize,
-}
-
 /// More steps than a statement takes, or a condition with what is around it.
 const STEPS: u64 = 70;
 
 impl Engine {
-    /// The value of a part that is taken for an integer. Chains are evaluated in place, and not behind a call as elsewhere.
-    #[inline(always)]
-    fn integer(&self, prepared: &Prepared, space: &Space, place: NodeId) -> Option<Quick>
-        ensures takes { IfSome result (λ q. TakesNow prepared.now.program (view_of self.now) space.now (tree_at prepared.now.program.nodes.items place) q.steps q.value) }
-        ensures few { IfSome result (λ q. q.steps ≤ 31) }
-        ensures within { (clusters : Option Below) → AreReached (reach (length space.now.slots) clusters) (view_of self.now) → IfSome result (λ q. IsReached (reach (length space.now.slots) clusters) q.value) }
-    {
-        match prepared.part(place) {
-            Some(&SimplePart::Apart(ApartPart::Chain(chain))) => {
-                self.chained(prepared, space, place, chain)
-            }
-            _ => self.quick_simple(prepared, place),
-        }
-    }
-
-    /// Does the statement of a number, which stands at a place, where its value needs no frame.
-    #[inline(always)]
-    fn do_statement(
-        &mut self,
-        prepared: &Prepared,
-        space: &Space,
-        number: usize,
-        place: NodeId,
-    ) -> Option<Quick>
-        ensures sets { IfSome result (λ q. SetsNow prepared.now.program (view_of self.old) space.now (tree_at prepared.now.program.nodes.items place) q.steps q.value (view_of self.new)) }
-        ensures few { IfSome result (λ q. q.steps ≤ 34) }
-        ensures within { (clusters : Option Below) → AreReached (reach (length space.now.slots) clusters) (view_of self.old) → AreReached (reach (length space.now.slots) clusters) (view_of self.new) }
-        ensures others { self.new ≡ record self.old { calls = self.new.calls } }
-        ensures none { IfNone result (self.new ≡ self.old) }
-    {
-        let statement = prepared.straight(number, place)?;
-        let found = self.integer(prepared, space, statement.value)?;
-        self.calls.write(statement.variable, found.value);
-        Some(Quick {
-            value: found.value,
-            steps: found.steps + statement.steps,
-        })
-    }
-
-    /// Does the statement that stands at a place, where it is an assignment with an operator to a local variable, and that and the other
-    /// operand, which needs no frame and no function of its own, are integers.
-    #[inline(always)]
-    fn do_update(&mut self, prepared: &Prepared, place: NodeId) -> Option<Quick>
-        ensures sets { (t : Table) → IfSome result (λ q. SetsNow prepared.now.program (view_of self.old) t (tree_at prepared.now.program.nodes.items place) q.steps q.value (view_of self.new)) }
-        ensures few { IfSome result (λ q. q.steps ≤ 34) }
-        ensures within { (k : Reach) → AreReached k (view_of self.old) → AreReached k (view_of self.new) }
-        ensures others { self.new ≡ record self.old { calls = self.new.calls } }
-        ensures none { IfNone result (self.new ≡ self.old) }
-    {
-        let Some(&Node::OperatorAssign(op, target, value)) = prepared.node(place) else {
-            return None;
-        };
-        let Some(&Node::Local { depth, slot, .. }) = prepared.node(target) else {
-            return None;
-        };
-        let variable = Variable { depth, slot };
-        let other = self.quick_simple(prepared, value)?;
-        let total = operated(op, self.variable(variable), other.value)?;
-        self.calls.write(variable, total);
-        Some(Quick {
-            value: total,
-            steps: other.steps + 3,
-        })
-    }
-
-    /// Does the statement that stands at a place, where it needs no frame: an assignment, which has a number then, or one with an operator.
-    #[inline(always)]
-    fn do_next(
-        &mut self,
-        prepared: &Prepared,
-        space: &Space,
-        number: usize,
-        place: NodeId,
-    ) -> Option<Done>
-        requires number { number < 2 ^ 40 }
-        ensures sets { IfSome result (λ d. SetsNow prepared.now.program (view_of self.old) space.now (tree_at prepared.now.program.nodes.items place) d.steps d.value (view_of self.new)) }
-        ensures few { IfSome result (λ d. d.steps ≤ 34) }
-        ensures number { IfSome result (λ d. d.number ≤ number + 1) }
-        ensures within { (clusters : Option Below) → AreReached (reach (length space.now.slots) clusters) (view_of self.old) → AreReached (reach (length space.now.slots) clusters) (view_of self.new) }
-        ensures others { self.new ≡ record self.old { calls = self.new.calls } }
-        ensures none { IfNone result (self.new ≡ self.old) }
-    {
-        if let Some(set) = self.do_statement(prepared, space, number, place) {
-            return Some(Done {
-                value: set.value,
-                steps: set.steps,
-                number: number + 1,
-            });
-        }
-        let set = self.do_update(prepared, place)?;
-        Some(Done {
-            value: set.value,
-            steps: set.steps,
-            number,
-        })
-    }
-
-    /// Does the `count` statements from `first` on, the assignments among which have the numbers from `from` on, up to one that needs a
-    /// frame.
-    #[inline(always)]
-    fn do_statements(
-        &mut self,
-        prepared: &Prepared,
-        space: &Space,
-        from: usize,
-        first: NodeId,
-        count: u32,
-    ) -> DoneStatements
-        requires small { first + count < 2 ^ 32 }
-        requires numbers { from < 2 ^ 32 }
-        ensures sets { SetFirst prepared.now.program (view_of self.old) space.now (first + count) count result.rest result.steps result.value (view_of self.new) }
-        ensures fewer { result.rest ≤ count }
-        ensures few { result.steps ≤ 34 * count }
-        ensures within { (clusters : Option Below) → AreReached (reach (length space.now.slots) clusters) (view_of self.old) → AreReached (reach (length space.now.slots) clusters) (view_of self.new) }
-        ensures others { self.new ≡ record self.old { calls = self.new.calls } }
-    {
-        let mut done = 0;
-        let mut steps = 0;
-        let mut value = Ref::Nil;
-        let mut number = from;
-        while done < count {
-            let Some(set) = self.do_next(prepared, space, number, first + done) else {
-                break;
-            };
-            steps += set.steps;
-            value = set.value;
-            number = set.number;
-            done += 1;
-        }
-        DoneStatements {
-            rest: count - done,
-            steps,
-            value,
-        }
-    }
-
     /// One round of a loop, which comes next, where more steps than a number are left. Its body has these statements.
     #[inline(always)]
     fn go_straight(
@@ -218,22 +58,22 @@ impl Engine {
         floor: u64,
     ) -> Round
         requires control { self.old.control ≡ Control.Enter here }
-        requires tree { tree_at prepared.now.program.nodes.items here ≡ evaluated_tree prepared.now.program.nodes.items (Node.Loop until condition body) }
-        requires list { tree_at prepared.now.program.nodes.items body ≡ evaluated_tree prepared.now.program.nodes.items (Node.Sequence first count) }
+        requires tree { tree_at prepared.now.program.nodes.items here ≡ evaluated_tree prepared.now.program.nodes.items (Nodes.Loop until condition body) }
+        requires list { tree_at prepared.now.program.nodes.items body ≡ evaluated_tree prepared.now.program.nodes.items (Nodes.Sequence first count) }
         requires small { first + count < 2 ^ 32 }
         requires numbers { from < 2 ^ 32 }
-        requires floor { 40 * (count + 1) ≤ floor }
+        requires floor { 70 * (count + 1) ≤ floor }
         ensures goes { Rounded prepared.now.program (view_of self.old) space.now here (first + count) result (view_of self.new) }
         ensures within { (clusters : Option Below) → AreReached (reach (length space.now.slots) clusters) (view_of self.old) → AreReached (reach (length space.now.slots) clusters) (view_of self.new) }
         ensures others { self.new ≡ record self.old { calls = self.new.calls; left = self.new.left } }
-        ensures enough { floor < self.old.left → floor < self.new.left + 40 * (count + 1) }
+        ensures enough { floor < self.old.left → floor < self.new.left + 70 * (count + 1) }
         ensures kept { self.new.left ≤ self.old.left }
         ensures spends { IsDone result → self.new.left < self.old.left }
     {
         if self.left <= floor {
             return Round::Stopped;
         }
-        let Some(tested) = self.quick_simple(prepared, condition) else {
+        let Some(tested) = self.quick(prepared, space, condition) else {
             return Round::Stopped;
         };
         if !goes_on(until, tested.value) {
@@ -264,16 +104,16 @@ impl Engine {
         floor: u64,
     ) -> Round
         requires control { self.old.control ≡ Control.Enter here }
-        requires tree { tree_at prepared.now.program.nodes.items here ≡ evaluated_tree prepared.now.program.nodes.items (Node.Loop until condition body) }
-        requires list { tree_at prepared.now.program.nodes.items body ≡ evaluated_tree prepared.now.program.nodes.items (Node.Sequence first count) }
+        requires tree { tree_at prepared.now.program.nodes.items here ≡ evaluated_tree prepared.now.program.nodes.items (Nodes.Loop until condition body) }
+        requires list { tree_at prepared.now.program.nodes.items body ≡ evaluated_tree prepared.now.program.nodes.items (Nodes.Sequence first count) }
         requires small { first + count < 2 ^ 32 }
         requires numbers { from < 2 ^ 32 }
-        requires floor { 40 * (count + 1) ≤ floor }
+        requires floor { 70 * (count + 1) ≤ floor }
         requires some { floor < self.old.left }
         ensures goes { Rounded prepared.now.program (view_of self.old) space.now here (first + count) result (view_of self.new) }
         ensures within { (clusters : Option Below) → AreReached (reach (length space.now.slots) clusters) (view_of self.old) → AreReached (reach (length space.now.slots) clusters) (view_of self.new) }
         ensures others { self.new ≡ record self.old { calls = self.new.calls; left = self.new.left } }
-        ensures enough { floor < self.new.left + 40 * (count + 1) }
+        ensures enough { floor < self.new.left + 70 * (count + 1) }
         ensures kept { self.new.left ≤ self.old.left }
         ensures spends { IsDone result → self.new.left < self.old.left }
     {
@@ -343,7 +183,7 @@ impl Engine {
         stop: u64,
     ) -> bool
         requires control { self.old.control ≡ Control.Enter here }
-        requires tree { tree_at prepared.now.program.nodes.items here ≡ evaluated_tree prepared.now.program.nodes.items (Node.Loop until condition body) }
+        requires tree { tree_at prepared.now.program.nodes.items here ≡ evaluated_tree prepared.now.program.nodes.items (Nodes.Loop until condition body) }
         requires some { stop < self.old.left }
         requires nested { IsNested (view_of self.old) }
         ensures goes { (h : Course) → remaining prepared.now.program (view_of self.old) space.now h ≡ remaining prepared.now.program (view_of self.new) space.now h }
@@ -393,7 +233,7 @@ impl Engine {
         stop: u64,
     )
         requires control { self.old.control ≡ Control.Enter here }
-        requires tree { tree_at prepared.now.program.nodes.items here ≡ evaluated_tree prepared.now.program.nodes.items (Node.Loop until condition body) }
+        requires tree { tree_at prepared.now.program.nodes.items here ≡ evaluated_tree prepared.now.program.nodes.items (Nodes.Loop until condition body) }
         requires some { stop < self.old.left }
         requires room { length self.old.frames.items < vec_capacity self.old.frames }
         requires nested { IsNested (view_of self.old) }

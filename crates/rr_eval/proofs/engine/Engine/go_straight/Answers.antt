@@ -24,7 +24,7 @@ returns-then-not-goes_on-clause-goes c h =
     let few = c.in-Some.ensures.few in
     let ends : goes_on c.args.until tested.value ≡ false = sym c.goes_on.ensures ∙ c.if-not-goes_on.true in
     loop_over p m c.args.space.now c.args.here c.args.condition c.args.body tested.steps (m.left - (tested.steps + 1)) c.args.until tested.value h c.requires.control
-    (loop_script p c.args.here c.args.until c.args.condition c.args.body c.requires.tree) (c.in-Some.ensures.takes c.args.space.now) (omega (arith, few)) ends refl
+    (loop_script p c.args.here c.args.until c.args.condition c.args.body c.requires.tree) c.in-Some.ensures.takes (omega (arith, few)) ends refl
 
 pub returns-then-not-goes_on-clause-within : goal.returns-then-not-goes_on-clause-within
 returns-then-not-goes_on-clause-within c clusters h = with_left (reach (length c.args.space.now.slots) clusters) (view_of c.args.self.now) _ h
@@ -48,7 +48,7 @@ returns-in-0-clause-goes c h =
     let left : new.left ≡ m.left = ap (λ (e : Engine). e.left) others in
     let k = new.left - (done.steps + tested.steps + 2) in
     round_again p m (view_of (record old { calls = new.calls })) t c.args.here c.args.condition c.args.body tested.steps end c.args.count done.steps k c.args.until tested.value done.value h c.requires.control
-    (loop_script p c.args.here c.args.until c.args.condition c.args.body c.requires.tree) (c.in-Some.ensures.takes t) goes c.requires.list all (omega (arith, few, less, left))
+    (loop_script p c.args.here c.args.until c.args.condition c.args.body c.requires.tree) c.in-Some.ensures.takes goes c.requires.list all (omega (arith, few, less, left))
     ∙ ap (λ (e : Engine). remaining p (record (view_of e) { left = k }) t h) (sym others)
 
 pub returns-in_default-rest-clause-goes : goal.returns-in_default-rest-clause-goes
@@ -74,7 +74,7 @@ returns-in_default-rest-clause-goes c h =
     let k = new.left - (done.steps + tested.steps + 2) in
     let waiting = λ (e : Engine) (r : ℕ). after_script p (record (view_of e) { frames = e.frames.items ++ Body c.args.here ∷ []; left = k }) t (statements (trees_before ns end r)) h k in
     round_left p m (view_of (record old { calls = new.calls })) t c.args.here c.args.condition c.args.body tested.steps end c.args.count more done.steps k c.args.until tested.value done.value h c.requires.control
-    (loop_script p c.args.here c.args.until c.args.condition c.args.body c.requires.tree) (c.in-Some.ensures.takes t) goes c.requires.list all (omega (arith, few, less, left))
+    (loop_script p c.args.here c.args.until c.args.condition c.args.body c.requires.tree) c.in-Some.ensures.takes goes c.requires.list all (omega (arith, few, less, left))
     ∙ ap (λ (e : Engine). waiting e (suc more)) (sym others)
     ∙ ap (waiting new) (sym some)
 
