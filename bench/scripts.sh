@@ -35,6 +35,7 @@ script("chained", "class Link\n  attr_reader :step\n  def initialize(step)\n    
 script("guarded", "s = 0\ni = 0\nwhile i < 1000000\n  begin\n    s = s + i\n  rescue => e\n    s = 0\n  end\n  i = i + 1\nend\nputs s\n")
 script("raised", "s = 0\ni = 0\nwhile i < 100000\n  begin\n    raise ArgumentError, \"no\" if i % 2 == 0\n    s = s + 1\n  rescue ArgumentError => e\n    s = s + e.message.size\n  end\n  i = i + 1\nend\nputs s\n")
 script("updates", "i = 0\ns = 0\nwhile i < 1000000\n  s += i\n  i += 1\nend\nputs s\n")
+script("collatz", "n = 1\nt = 0\nwhile n < 20000\n  k = n\n  c = 0\n  while k != 1\n    if k % 2 == 0\n      k = k / 2\n    else\n      k = k * 3 + 1\n    end\n    c += 1\n  end\n  t += c\n  n += 1\nend\nputs t\n")
 script("counters", "class Counter\n  def initialize\n    @count = 0\n  end\n  def run(n)\n    i = 0\n    while i < n\n      @count += i\n      i += 1\n    end\n    @count\n  end\nend\nputs Counter.new.run(300000)\n")
 script("tallies", "h = {a: 0, b: 0}\na = [0, 0]\ni = 0\nwhile i < 300000\n  h[:a] += 1\n  a[1] += i\n  i += 1\nend\nputs h[:a] + a[1]\n")
 script("constants", "LIMIT = 1000000\nSTEP = 1\ni = 0\nwhile i < LIMIT\n  i = i + STEP\nend\nputs i\n")
