@@ -5,7 +5,7 @@ ghost use Rattle.rr_eval.specs.Straight.{AreStraight, IsStraight};
 
 use crate::call_stack::Variable;
 use crate::chains::Link;
-use crate::nodes::evaluated_node;
+use crate::nodes::{evaluated_node, node_at};
 use crate::simple_parts::{ApartPart, SimplePart, SimpleParts};
 use rr_tree::{Node, NodeId, Program};
 use std::alloc::{AllocError, Global};
@@ -26,7 +26,7 @@ pub struct Straight {
 /// The loops of a program that have such statements alone.
 #[derive(Drop)]
 pub struct StraightLoops {
-    /// Where the statements of a loop begin among those of all, by the places of the program.
+    /// Where the statements of a loop begin among those of all, by the places of the program, up to that of the last such loop.
     pub starts: Vec<Option<u32>>,
     /// The statements, those of one loop side by side.
     pub statements: Vec<Straight>,
@@ -267,6 +267,46 @@ fn put_loop(
     }
 }
 
+/// Whether a loop may stand at a place: one does, or an item of a list, which stands for its part.
+#[inline(always)]
+fn may_be_loop(program: &Program, place: NodeId) -> bool {
+    match node_at(program, place) {
+        Some(&Node::Loop { .. }) | Some(&Node::Item(_)) => true,
+        _ => false,
+    }
+}
+
+/// Writes down where the statements of the loop at a place begin, and that no such loop stands between that and the last one. The only fault
+/// is want of memory.
+fn put_start(starts: &mut Vec<Option<u32>>, place: usize, start: u32) -> Result<(), AllocError> {
+    while starts.len() < place {
+        starts.push(None)?;
+    }
+    starts.push(Some(start))?;
+    Ok(())
+}
+
+/// Puts the loop at a place behind the others, where it is such a loop. The only fault is want of memory.
+#[inline(always)]
+fn put_place(
+    program: &Program,
+    simple: &SimpleParts,
+    loops: &mut StraightLoops,
+    place: NodeId,
+) -> Result<(), AllocError>
+    requires { AreStraight program.now.nodes.items loops.old.statements.items }
+    ensures { IfOk result (λ _. AreStraight program.now.nodes.items loops.new.statements.items) }
+{
+    if !may_be_loop(program, place) {
+        return Ok(());
+    }
+    let Some(start) = put_loop(program, simple, &mut loops.statements, place)? else {
+        return Ok(());
+    };
+    put_start(&mut loops.starts, place as usize, start)?;
+    Ok(())
+}
+
 /// The loops of a program that have such statements alone. The only fault is want of memory.
 pub fn straight_loops(
     alloc: Global,
@@ -275,14 +315,15 @@ pub fn straight_loops(
 ) -> Result<StraightLoops, AllocError>
     ensures { IfOk result (λ loops. AreStraight program.now.nodes.items loops.statements.items) }
 {
-    let mut starts = Vec::new(alloc);
-    let mut statements = Vec::new(alloc);
+    let mut loops = StraightLoops {
+        starts: Vec::new(alloc),
+        statements: Vec::new(alloc),
+    };
     for number in 0..program.nodes.len() {
         let Ok(place) = u32::try_from(number) else {
-            return Ok(StraightLoops { starts, statements });
+            return Ok(loops);
         };
-        let start = put_loop(program, simple, &mut statements, place)?;
-        starts.push(start)?;
+        put_place(program, simple, &mut loops, place)?;
     }
-    Ok(StraightLoops { starts, statements })
+    Ok(loops)
 }
