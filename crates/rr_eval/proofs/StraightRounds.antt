@@ -1,31 +1,30 @@
 -- Statements that assign the value of one part to a local variable are done without frames, and so are rounds of loops that have such
 -- statements alone.
-use Rattle.std.proofs.Common.{◌≡◌, ◌∙◌, ℕ, zero, suc, ◌+◌, ◌-◌, ◌<◌, ◌≤◌, ap, refl, sym, subst, arith, Bool, true, false, if◌then◌else◌, List, [], ◌∷◌, ◌++◌, reverse, Option, None, Some}
+use Rattle.std.proofs.Common.{◌≡◌, ◌∙◌, ℕ, zero, suc, ◌+◌, ◌-◌, ◌<◌, ap, sym, subst, arith, Bool, true, false, if◌then◌else◌, [], ◌∷◌, ◌++◌, reverse, Option, None, Some}
 use Rattle.rr_frames.specs.Frames.{Stack}
 use Rattle.rr_space.specs.Tables.{Table}
 use Rattle.rr_space.specs.declared.refer.Ref.{Ref}
 use Rattle.rr_space.specs.declared.refer.Ref.TheVariants.{Nil}
 use Rattle.rr_tree.specs.Nodes.{trees_before}
-use Rattle.rr_tree.specs.Tree.{Tree, Trees, nil, local, binary, choose, assign, operator_assign, rescue, sequence, empty, then_one, listed, tree_at}
+use Rattle.rr_tree.specs.Tree.{Tree, Trees, nil, local, choose, assign, operator_assign, rescue, sequence, empty, then_one, listed, tree_at}
 use Rattle.rr_tree.specs.declared.node.BinaryOperator.{BinaryOperator}
 use Rattle.rr_tree.specs.declared.node.Node.TheVariants.{Loop}
 use Rattle.rr_tree.specs.declared.program.Program.{Program}
 use Rattle.rr_eval.specs.declared.call_stack.Variable.{Variable as Local}
 use Rattle.rr_eval.specs.declared.frame.Control.TheVariants.{Enter, Give}
-use Rattle.rr_eval.specs.declared.frame.Frame.{Frame}
 use Rattle.rr_eval.specs.declared.frame.Frame.TheVariants.{Body, Condition}
 use Rattle.rr_eval.specs.declared.problem.Answer.{Answer}
 use Rattle.rr_eval.specs.declared.problem.Answer.TheVariants.{Gave}
-use Rattle.rr_eval.specs.Frames.{Code, means, runs_in, resumed, start, unwind}
+use Rattle.rr_eval.specs.Frames.{means, runs_in, resumed, start, unwind}
 use Rattle.rr_eval.specs.Nodes.{evaluated_tree}
 use Rattle.rr_eval.specs.Requests.{Course}
 use Rattle.rr_eval.specs.Context.{Context}
 use Rattle.rr_eval.specs.Rules.{rule, operation, on_value, in_loop, loop_rule, turn_rule, statements, write, items}
 use Rattle.rr_eval.specs.Rescuing.{rescue_rule}
-use Rattle.rr_eval.specs.Script.{State, World, Go, Ret, Ended, Outcome, after}
+use Rattle.rr_eval.specs.Script.{World, Go, Ret, Ended, after}
 use Rattle.rr_eval.specs.Straight.{assigned_by}
 use Rattle.rr_eval.specs.StraightRounds.{SetsNow, SetFirst, left_over}
-use Rattle.rr_eval.specs.Turns.{context_of, code_of, state_of, blocks_of, remaining, after_script}
+use Rattle.rr_eval.specs.Turns.{context_of, code_of, state_of, remaining, after_script}
 use Rattle.rr_eval.specs.Usual.{TakesNow}
 use Rattle.rr_builtin.specs.Objects.{is_truthy}
 use Rattle.rr_eval.specs.Values.{goes_on}

@@ -1,5 +1,5 @@
 -- Statements that assign the value of one part to a local variable, one behind the other.
-use Rattle.std.proofs.Common.{◌≡◌, ◌+◌, ◌<◌, ℕ, List, [], ◌∷◌, ◌++◌, Some, arith, subst, slice_get, inl, inr}
+use Rattle.std.proofs.Common.{◌≡◌, List, [], ◌∷◌, ◌++◌, Some, arith, subst, slice_get, inl, inr}
 use Rattle.std.proofs.lemmas.Option.{slice_get_within}
 use Rattle.rr_space.proofs.Hands.{append_cases}
 use Rattle.rr_tree.specs.declared.node.Node.{Node}

@@ -5,8 +5,6 @@ use Rattle.rr_eval.specs.declared.call.Arguments.TheVariants.{Two}
 use Rattle.rr_eval.specs.declared.call.Task.TheVariants.{SetField}
 use Rattle.rr_eval.specs.declared.request.Request.TheVariants.{Call, Do}
 use Rattle.rr_eval.specs.Published.{published}
-use Rattle.rr_base.specs.declared.fault.Fault.TheVariants as faults
-use Rattle.rr_base.specs.declared.limits.LimitKind.TheVariants as limits
 use Rattle.rr_space.specs.Tables.{Table}
 use Rattle.rr_space.specs.declared.refer.Ref.{Ref}
 use Rattle.rr_store.specs.Stores.{Store}

@@ -1,6 +1,6 @@
 -- The variable gets the value.
 use Rattle.std.proofs.Common.{ℕ, ◌+◌, ◌∙◌, ap, sym, subst, length}
-use Rattle.rr_tree.specs.Tree.{assign, tree_at}
+use Rattle.rr_tree.specs.Tree.{tree_at}
 use Rattle.rr_eval.specs.declared.call_stack.Variable.{Variable as Named}
 use Rattle.rr_eval.specs.Nodes.{evaluated_tree}
 use Rattle.rr_eval.specs.StraightRounds.{SetsNow}

@@ -1,5 +1,5 @@
 -- One statement more is done.
-use Rattle.std.proofs.Common.{◌≡◌, ◌+◌, ◌-◌, ◌∙◌, ap, refl, arith}
+use Rattle.std.proofs.Common.{◌+◌, ◌-◌, ◌∙◌, ap, refl, arith}
 use Rattle.rr_eval.specs.declared.engine.Engine.{Engine}
 use Rattle.rr_eval.specs.Views.{view_of}
 use Rattle.rr_eval.proofs.StraightRounds.{more_set}

@@ -1,17 +1,14 @@
 -- A round is what the rule of a loop says.
-use Rattle.std.proofs.Common.{◌≡◌, ◌+◌, ◌-◌, ◌*◌, ◌<◌, ◌≤◌, ◌∙◌, ◌++◌, ◌∷◌, [], suc, zero, ℕ, ap, sym, subst, refl, arith, length, true, false}
-use Rattle.rr_tree.specs.Tree.{Tree, tree_at}
+use Rattle.std.proofs.Common.{◌≡◌, ◌+◌, ◌-◌, ◌∙◌, ◌++◌, ◌∷◌, [], suc, ℕ, ap, sym, subst, refl, arith, length, true, false}
 use Rattle.rr_tree.specs.Nodes.{trees_before}
 use Rattle.rr_eval.specs.declared.engine.Engine.{Engine}
-use Rattle.rr_eval.specs.declared.frame.Frame.TheVariants.{Body, Condition}
-use Rattle.rr_eval.specs.Frames.{resumed}
-use Rattle.rr_eval.specs.Rules.{rule, loop_rule, statements}
-use Rattle.rr_eval.specs.Script.{Go, Ret, World}
+use Rattle.rr_eval.specs.declared.frame.Frame.TheVariants.{Body}
+use Rattle.rr_eval.specs.Rules.{statements}
 use Rattle.rr_eval.specs.StraightRounds.{SetFirst}
-use Rattle.rr_eval.specs.Turns.{context_of, code_of, remaining, after_script}
+use Rattle.rr_eval.specs.Turns.{remaining, after_script}
 use Rattle.rr_eval.specs.Values.{goes_on}
 use Rattle.rr_eval.specs.Views.{view_of}
-use Rattle.rr_eval.specs.Within.{reach, AreReached}
+use Rattle.rr_eval.specs.Within.{reach}
 use Rattle.rr_eval.proofs.Holding.{with_left}
 use Rattle.rr_eval.proofs.StraightRounds.{loop_over, round_again, round_left, loop_script}
 use Rattle.rr_eval.proofs.engine.Engine.go_straight.Goals as goal

@@ -1,5 +1,5 @@
 -- The new object is reached, or would be one too many.
-use Rattle.std.proofs.Common.{◌≡◌, [], ◌∷◌, None, Some, ap, length, subst, sym}
+use Rattle.std.proofs.Common.{◌≡◌, [], None, Some, ap, length, subst, sym}
 use Rattle.std.proofs.lemmas.List.{append-nil}
 use Rattle.rr_eval.specs.declared.problem.Answer.TheVariants.{Gave}
 use Rattle.rr_eval.specs.Acts.{Passes}

@@ -1,5 +1,5 @@
 -- The rounds so far are done, and the loop comes next.
-use Rattle.std.proofs.Common.{◌≡◌, ◌+◌, ◌*◌, ◌<◌, ◌≤◌, length, Option}
+use Rattle.std.proofs.Common.{◌≡◌, ◌<◌, ◌≤◌, length, Option}
 use Rattle.rr_space.specs.Tables.{Below}
 use Rattle.rr_eval.specs.Requests.{Course}
 use Rattle.rr_eval.specs.Turns.{remaining}

@@ -1,9 +1,7 @@
 -- A class finds no method of the program by the name of its maker, which makes its objects.
-use Rattle.std.proofs.Common.{◌≡◌, ◌∙◌, None, Some, ap, sym, subst}
-use Rattle.rr_base.specs.declared.name.ClassId.{ClassId}
+use Rattle.std.proofs.Common.{◌≡◌, None, Some, ap, sym, subst}
 use Rattle.rr_base.specs.declared.name.Sym.{Sym}
 use Rattle.rr_space.specs.declared.refer.Ref.{Ref}
-use Rattle.rr_space.specs.declared.refer.Ref.TheVariants.{Class}
 use Rattle.rr_eval.specs.declared.call.Callee.TheVariants.{Name}
 use Rattle.rr_eval.specs.Callees.{method_of}
 use Rattle.rr_eval.specs.Dispatch.{made_by, method_for}
