@@ -218,10 +218,11 @@ impl Engine {
         self.end_straight(here, first + count, gone)
     }
 
-    /// Evaluates a loop whose statements are those from a number on.
+    /// Evaluates a loop: where its statements need no frames, its rounds are done one after the other. It is called, and not compiled in
+    /// place, since a loop comes here once for all its rounds most of the time.
     #[cold]
     #[inline(never)]
-    pub fn visit_straight(
+    pub fn visit_rounds(
         &mut self,
         prepared: &Prepared,
         space: &Space,
@@ -229,7 +230,6 @@ impl Engine {
         until: bool,
         condition: NodeId,
         body: NodeId,
-        from: u32,
         stop: u64,
     )
         requires control { self.old.control ≡ Control.Enter here }
@@ -244,7 +244,9 @@ impl Engine {
         ensures spends { self.new.left < self.old.left }
         ensures falls { power (view_of self.new) + self.old.left ≤ power (view_of self.old) + self.new.left }
     {
-        if self.try_straight(prepared, space, here, until, condition, body, from, stop) {
+        if let Some(from) = prepared.straight_from(here)
+            && self.try_straight(prepared, space, here, until, condition, body, from, stop)
+        {
             return;
         }
         self.visit_loop(prepared, space, here, until, condition, body, stop);

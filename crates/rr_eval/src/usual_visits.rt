@@ -401,12 +401,7 @@ impl Engine {
                 until,
                 condition,
                 body,
-            } => match prepared.straight_from(here) {
-                Some(from) => {
-                    self.visit_straight(prepared, space, here, until, condition, body, from, stop);
-                }
-                None => self.visit_loop(prepared, space, here, until, condition, body, stop),
-            },
+            } => self.visit_rounds(prepared, space, here, until, condition, body, stop),
             &Node::Sequence { first, count } => {
                 self.visit_statements(&prepared.program, here, first, count, stop);
             }

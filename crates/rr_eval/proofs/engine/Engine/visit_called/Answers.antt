@@ -25,8 +25,8 @@ bare_usual-requires-clause-script c =
     let p = c.args.prepared.now.program in
     ap (rule (context_of p)) (c.requires.tree ∙ ap (evaluated_tree p.nodes.items) c.in-Bare.is)
 
-pub visit_loop-requires-clause-tree : goal.visit_loop-requires-clause-tree
-visit_loop-requires-clause-tree c = c.requires.tree ∙ ap (evaluated_tree c.args.prepared.now.program.nodes.items) c.in-Loop.is
+pub visit_rounds-requires-clause-tree : goal.visit_rounds-requires-clause-tree
+visit_rounds-requires-clause-tree c = c.requires.tree ∙ ap (evaluated_tree c.args.prepared.now.program.nodes.items) c.in-Loop.is
 
 pub visit_statements-requires-clause-tree : goal.visit_statements-requires-clause-tree
 visit_statements-requires-clause-tree c = c.requires.tree ∙ ap (evaluated_tree c.args.prepared.now.program.nodes.items) c.in-Sequence.is
