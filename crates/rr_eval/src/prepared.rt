@@ -36,7 +36,7 @@ use crate::plain_methods::{
 };
 use crate::ractor_method::ractor_method;
 use crate::serve::method_of;
-use crate::simple_parts::{SimplePart, SimpleParts, simple_parts};
+use crate::simple_parts::{SimplePart, SimpleParts, needs_no_frame, simple_parts};
 use crate::straight::{Straight, StraightLoops, straight_loops};
 use rr_base::{ClassId, Sym};
 use rr_builtin::{
@@ -195,10 +195,7 @@ impl Prepared {
     /// Whether the part at a place is taken for one that needs no frame.
     #[inline(always)]
     pub(crate) fn is_simple(&self, place: NodeId) -> bool {
-        match self.part(place) {
-            Some(SimplePart::Other) | None => false,
-            Some(_) => true,
-        }
+        needs_no_frame(&self.simple, place)
     }
 
     /// Where the statements of the loop at a place begin, where they assign integers to local variables alone.

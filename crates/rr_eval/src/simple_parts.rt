@@ -61,6 +61,15 @@ pub struct SimpleParts {
     pub links: Vec<Link>,
 }
 
+/// Whether a part is taken for one that needs no frame.
+#[inline(always)]
+pub fn needs_no_frame(simple: &SimpleParts, place: NodeId) -> bool {
+    match simple.parts.get(place as usize) {
+        Some(SimplePart::Other) | None => false,
+        Some(_) => true,
+    }
+}
+
 /// The operand that stands at a place.
 fn operand_at(program: &Program, place: NodeId) -> SimplePart
     ensures { result ≡ operand_of (tree_at program.now.nodes.items place) }

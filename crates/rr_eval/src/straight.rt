@@ -6,7 +6,7 @@ ghost use Rattle.rr_eval.specs.Straight.{AreStraight, IsStraight};
 use crate::call_stack::Variable;
 use crate::chains::Link;
 use crate::nodes::{evaluated_node, node_at};
-use crate::simple_parts::{ApartPart, SimplePart, SimpleParts};
+use crate::simple_parts::{ApartPart, SimplePart, SimpleParts, needs_no_frame};
 use rr_tree::{Node, NodeId, Program};
 use std::alloc::{AllocError, Global};
 
@@ -32,7 +32,7 @@ pub struct StraightLoops {
     pub statements: Vec<Straight>,
 }
 
-/// The assignment that stands at a place alone, with the steps of what is around it, as a statement of another place.
+/// The statement at a place, where it is an assignment.
 fn assignment_at(program: &Program, place: NodeId) -> Option<Straight>
     ensures place { IfSome result (λ s. s.place ≡ place) }
     ensures is { IfSome result (IsStraight program.now.nodes.items) }
@@ -133,14 +133,6 @@ fn is_integer(simple: &SimpleParts, place: NodeId) -> bool {
             }
         }
         _ => is_plain(simple, place),
-    }
-}
-
-/// Whether a part is taken for one that needs no frame.
-fn needs_no_frame(simple: &SimpleParts, place: NodeId) -> bool {
-    match simple.parts.get(place as usize) {
-        Some(SimplePart::Other) | None => false,
-        Some(_) => true,
     }
 }
 
