@@ -66,6 +66,14 @@ impl Frames {
         self.rows.len()
     }
 
+    /// Whether there may be another frame.
+    #[inline(always)]
+    pub fn may_grow(&self) -> bool
+        ensures { result ≡ nat_lt (length self.now.frames) self.now.limit }
+    {
+        self.rows.len() < self.limit
+    }
+
     /// What the frame has beside its variables.
     #[inline(always)]
     pub fn activation(&self, number: u32) -> Option<Activation>
