@@ -10,7 +10,7 @@ ghost use Rattle.rr_eval.specs.declared.chains.Link.{Link};
 use crate::call_stack::Variable;
 use crate::chains::{Chain, Link, chain_behind};
 use crate::constant::own_class;
-use crate::nodes::evaluated_node;
+use crate::nodes::{evaluated_node, node_at};
 use crate::plain_methods::PlainMethod;
 use crate::prepared::Work;
 use rr_base::{BuiltInClass, Sym};
@@ -215,6 +215,19 @@ fn part_at(program: &Program, plain: &Vec<PlainMethod>, place: NodeId) -> Simple
     }
 }
 
+/// What the part is for which an item of a list stands, where one stands at a place.
+fn item_part(program: &Program, parts: &Vec<SimplePart>, place: NodeId) -> Option<SimplePart>
+    ensures { (links : List Link) → AreSimple program.now links parts.now.items → IfSome result (IsSimple program.now links (tree_at program.now.nodes.items place)) }
+{
+    let Some(&Node::Item(whole)) = node_at(program, place) else {
+        return None;
+    };
+    match parts.get(whole as usize) {
+        Some(part) => Some(*part),
+        None => None,
+    }
+}
+
 /// What the part at a place is, or is taken for, behind those before it. Links of a chain that ends with it are put behind the others.
 fn part_behind(
     program: &Program,
@@ -227,6 +240,9 @@ fn part_behind(
     ensures part { IfOk result (IsSimple program.now links.new.items (tree_at program.now.nodes.items place)) }
     ensures parts { OnOk result (AreSimple program.now links.new.items parts.now.items) }
 {
+    if let Some(part) = item_part(program, parts, place) {
+        return Ok(part);
+    }
     let part = part_at(program, plain, place);
     if let SimplePart::Other = part
         && let Node::Binary(op, a, b) = evaluated_node(program, place)
