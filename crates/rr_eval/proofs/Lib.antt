@@ -12,6 +12,7 @@ pub mod Showing
 pub mod Depth
 pub mod Unknown
 pub mod Unwind
+pub mod Frameless
 pub mod Entered
 pub mod Quickly
 pub mod QuickParts

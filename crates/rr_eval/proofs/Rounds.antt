@@ -26,7 +26,7 @@ use Rattle.rr_eval.proofs.Invoking.{stack_is}
 use Rattle.rr_eval.proofs.Unwind.{after_ended, rest_push}
 
 -- a turn does what its block does, and then what is ahead
-turn_means : (c : Code) (visits : Visits) (stand : List Ref) (t : Tree) (shape : Shape) → shape_in (Some t) ≡ Some shape → (s : State) (n : ℕ)
+pub turn_means : (c : Code) (visits : Visits) (stand : List Ref) (t : Tree) (shape : Shape) → shape_in (Some t) ≡ Some shape → (s : State) (n : ℕ)
     → let i : Iterated = record { visits = visits; stand = stand; block = t } in evaluates c (TurnPart i) s n ≡ after (means c t s n) (λ a. runs_in c (turned c.context i a))
 turn_means c visits stand (block x parameters size body) shape is s zero = refl
 turn_means c visits stand (block x parameters size body) shape is s (suc n) =

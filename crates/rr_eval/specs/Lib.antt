@@ -61,3 +61,4 @@ pub mod Alone
 pub mod Runs
 pub mod Straight
 pub mod StraightRounds
+pub mod Unframed

@@ -1,11 +1,14 @@
 //! The frames of the program and of the methods and blocks that run, by numbers of 32 bits.
 
-ghost use Rattle.std.specs.Prelude.{false, ◌≡◌, ◌+◌, ◌-◌, ◌<◌, ◌∷◌, ◌++◌, [], nat_lt, length, IfOk, IfErr, IsTrue, IsFalse, OnOk, OnErr, if◌then◌else◌};
+ghost use Rattle.std.specs.Prelude.{true, false, IfSome, ◌≡◌, ◌+◌, ◌-◌, ◌<◌, ◌∷◌, ◌++◌, [], nat_lt, length, IfOk, IfErr, IsTrue, IsFalse, OnOk, OnErr, if◌then◌else◌};
+ghost use Rattle.std.specs.List.{All};
 ghost use Rattle.rr_base.specs.declared.fault.Fault.{Fault};
 ghost use Rattle.rr_base.specs.declared.limits.LimitKind.{LimitKind};
-ghost use Rattle.rr_frames.specs.Frames.{frame_at, laid, left, list_of, no_frame, read_at};
+ghost use Rattle.rr_frames.specs.Frames.{Frame as Activated, frame_at, laid, left, list_of, no_frame, read_at};
 ghost use Rattle.rr_eval.specs.Blocks.{activation_in, running, is_outside};
+ghost use Rattle.rr_eval.specs.Unframed.{LiesIn, AsMany};
 ghost use Rattle.rr_eval.specs.Variables.{top, outer, read_variable, write_variable};
+ghost use Rattle.rr_eval.specs.Within.{Reach, IsReached, AreVariablesReached};
 
 use rr_base::{ClassId, Fault, Sym};
 use rr_frames::{Activation, Frames, Given, Shape};
@@ -141,6 +144,19 @@ impl CallStack {
         self.frames.len().saturating_sub(1) as u32
     }
 
+    /// The number of the next frame, where there may be one more.
+    #[inline(always)]
+    pub fn next(&self) -> Option<u32>
+        ensures number { IfSome result (λ n. n ≡ length self.now.frames) }
+        ensures room { IfSome result (λ _. nat_lt (length self.now.frames) self.now.limit ≡ true) }
+    {
+        if self.frames.may_grow() {
+            Some((self.frames.len() % NUMBERS) as u32)
+        } else {
+            None
+        }
+    }
+
     /// What a frame has beside its variables.
     #[inline(always)]
     pub fn activation(&self, number: u32) -> Activation
@@ -184,6 +200,63 @@ impl CallStack {
         match variable.depth {
             0 => self.frames.read(variable.slot),
             depth => self.frames.get(self.outside(depth - 1), variable.slot),
+        }
+    }
+
+    /// The number of the frame so many scopes outside of one, where that and those between are there.
+    #[inline(always)]
+    fn scope_at(&self, home: u32, more: u32) -> Option<u32>
+        ensures goes { (f : Activated) → IfSome result (λ n. outer more home (self.now.frames ++ f ∷ []) ≡ n) }
+        ensures there { IfSome result (λ n. n < length self.now.frames) }
+    {
+        let mut number = home;
+        let mut rest = more;
+        while rest > 0 {
+            number = self.frames.activation(number)?.home;
+            rest -= 1;
+        }
+        if (number as usize) < self.frames.len() {
+            Some(number)
+        } else {
+            None
+        }
+    }
+
+    /// A variable as a frame sees it that is not there: its first variables have these values, and it lies in the one with the number
+    /// `home`. None where that does not tell it.
+    #[inline(always)]
+    pub fn read_unframed(&self, values: &[Ref], home: u32, variable: Variable) -> Option<Ref>
+        ensures { (f : Activated) → LiesIn values.now home f → IfSome result (λ v. read_variable variable (self.now.frames ++ f ∷ []) ≡ v) }
+    {
+        match variable.depth {
+            0 => match values.get(variable.slot as usize) {
+                Some(value) => Some(*value),
+                None => None,
+            },
+            depth => {
+                let number = self.scope_at(home, depth - 1)?;
+                Some(self.frames.get(number, variable.slot))
+            }
+        }
+    }
+
+    /// Gives a variable outside of such a frame another value: it answers whether it was done. Where it answers `false`, nothing was done.
+    #[inline(always)]
+    pub fn write_unframed(&mut self, home: u32, variable: Variable, value: Ref) -> bool
+        ensures written { IsTrue result → (f : Activated) → f.activation.home ≡ home → write_variable variable value (self.old.frames ++ f ∷ []) ≡ self.new.frames ++ f ∷ [] }
+        ensures many { AsMany self.old self.new }
+        ensures within { (k : Reach) → IsReached k value → All (AreVariablesReached k) self.old.frames → All (AreVariablesReached k) self.new.frames }
+        ensures declined { IsFalse result → self.new ≡ self.old }
+    {
+        if variable.depth == 0 {
+            return false;
+        }
+        match self.scope_at(home, variable.depth - 1) {
+            Some(number) => {
+                self.frames.set(number, variable.slot, value);
+                true
+            }
+            None => false,
         }
     }
 

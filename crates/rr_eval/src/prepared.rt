@@ -127,7 +127,7 @@ impl Prepared {
         let instances = known_instances(alloc, &program, &table, &operators, &methods)?;
         let nodes = evaluated_nodes(alloc, &program)?;
         let simple = simple_parts(alloc, &program, &plain)?;
-        let straight = straight_loops(alloc, &program, &simple)?;
+        let straight = straight_loops(alloc, &program, &plain, &simple)?;
         Ok(Prepared {
             program,
             table,

@@ -6,6 +6,8 @@ ghost use Rattle.rr_eval.specs.Straight.{AreStraight, IsStraight};
 use crate::call_stack::Variable;
 use crate::chains::Link;
 use crate::nodes::{evaluated_node, node_at};
+use crate::plain_methods::PlainMethod;
+use crate::prepared::{Definition, Work};
 use crate::simple_parts::{ApartPart, SimplePart, SimpleParts, needs_no_frame};
 use rr_tree::{Node, NodeId, Program};
 use std::alloc::{AllocError, Global};
@@ -164,22 +166,138 @@ fn is_part(program: &Program, simple: &SimpleParts, place: NodeId) -> bool {
     }
 }
 
-/// Whether a choice stands at a place whose condition and parts need no frame.
+/// Whether a choice stands at a place whose condition and one part of which need no frame. The other one may leave what is around it.
 fn is_choice(program: &Program, simple: &SimpleParts, place: NodeId) -> bool {
     match evaluated_node(program, place) {
         Node::Choose(condition, yes, no) => {
             needs_no_frame(simple, condition)
-                && is_part(program, simple, yes)
-                && is_part(program, simple, no)
+                && (is_part(program, simple, yes) || leaves(program, yes))
+                && (is_part(program, simple, no) || leaves(program, no))
         }
         _ => false,
     }
 }
 
-/// Puts the statement at a place behind the others, where it is an assignment, and passes over one with an operator and a choice, which are
-/// looked at when they are done: it answers whether it is one of them. The only fault is want of memory.
+/// Whether a part leaves what is around it.
+fn leaves(program: &Program, place: NodeId) -> bool {
+    match evaluated_node(program, place) {
+        Node::Break(_) | Node::Next(_) | Node::Return(_) => true,
+        _ => false,
+    }
+}
+
+/// Whether `count` statements from `first` on are choices.
+fn are_choices(program: &Program, first: NodeId, count: u32) -> bool {
+    let mut rest = count;
+    while rest > 0 {
+        rest -= 1;
+        match evaluated_node(program, first.saturating_add(rest)) {
+            Node::Choose(_, _, _) => {}
+            _ => return false,
+        }
+    }
+    true
+}
+
+/// Whether a statement at a place assigns a part that is taken for an integer to a variable outside of the block, or is a choice.
+fn is_outward(program: &Program, simple: &SimpleParts, place: NodeId) -> bool {
+    match evaluated_node(program, place) {
+        Node::Assign { depth, value, .. } => depth > 0 && is_integer(simple, value),
+        Node::OperatorAssign(_, target, value) => match evaluated_node(program, target) {
+            Node::Local { depth, .. } => depth > 0 && is_plain(simple, value),
+            _ => false,
+        },
+        _ => is_choice(program, simple, place),
+    }
+}
+
+/// Whether a block stands at a place whose statements need no frame: the last one assigns, and the others are choices.
+fn is_block(program: &Program, simple: &SimpleParts, place: NodeId) -> bool {
+    let Node::Block { body, .. } = evaluated_node(program, place) else {
+        return false;
+    };
+    match evaluated_node(program, body) {
+        Node::Sequence { first, count } => {
+            count > 0
+                && is_outward(program, simple, first.saturating_add(count - 1))
+                && are_choices(program, first, count - 1)
+        }
+        _ => false,
+    }
+}
+
+/// Whether a `yield` of one such part stands at a place.
+fn is_yield(program: &Program, simple: &SimpleParts, place: NodeId) -> bool {
+    match evaluated_node(program, place) {
+        Node::Yield { first, count: 1 } => is_plain(simple, first),
+        _ => false,
+    }
+}
+
+/// Whether some statements end with a part that is taken for an integer, behind choices.
+fn is_result(program: &Program, simple: &SimpleParts, body: NodeId) -> bool {
+    match evaluated_node(program, body) {
+        Node::Sequence { first, count } => {
+            count > 0
+                && is_integer(simple, first.saturating_add(count - 1))
+                && are_choices(program, first, count - 1)
+        }
+        _ => false,
+    }
+}
+
+/// Whether a call on `self` stands at a place of a method whose value is taken for an integer.
+fn is_call(
+    program: &Program,
+    plain: &Vec<PlainMethod>,
+    simple: &SimpleParts,
+    place: NodeId,
+) -> bool {
+    let Node::Call { name, .. } = evaluated_node(program, place) else {
+        return false;
+    };
+    match plain.get(name.0 as usize) {
+        Some(found) => match found.definition {
+            Some(
+                Definition {
+                    work: Work::Run(body),
+                    ..
+                },
+            ) => is_result(program, simple, body.node),
+            _ => false,
+        },
+        None => false,
+    }
+}
+
+/// Whether such a call stands at a place, or an operator on one and a part that is taken for an integer.
+fn is_called(
+    program: &Program,
+    plain: &Vec<PlainMethod>,
+    simple: &SimpleParts,
+    place: NodeId,
+) -> bool {
+    match evaluated_node(program, place) {
+        Node::Binary(_, left, right) => {
+            is_call(program, plain, simple, left) && is_plain(simple, right)
+        }
+        _ => is_call(program, plain, simple, place),
+    }
+}
+
+/// Whether a statement without a number stands at a place: an assignment with an operator, a choice, or a `yield`. It is looked at when it
+/// is done.
+fn is_other(program: &Program, simple: &SimpleParts, place: NodeId) -> bool {
+    is_update(program, simple, place)
+        || is_choice(program, simple, place)
+        || is_yield(program, simple, place)
+}
+
+/// Puts the statement at a place behind the others, where it is an assignment whose value is taken for an integer, and passes over another
+/// one that needs no frame: it answers whether it is one of them. The only fault is want of memory.
 fn put_statement(
     program: &Program,
+    plain: &Vec<PlainMethod>,
     simple: &SimpleParts,
     statements: &mut Vec<Straight>,
     place: NodeId,
@@ -188,10 +306,10 @@ fn put_statement(
     ensures { IfOk result (λ _. AreStraight program.now.nodes.items statements.new.items) }
 {
     let Some(statement) = straight_at(program, place) else {
-        return Ok(is_update(program, simple, place) || is_choice(program, simple, place));
+        return Ok(is_other(program, simple, place));
     };
     if !is_integer(simple, statement.value) {
-        return Ok(false);
+        return Ok(is_called(program, plain, simple, statement.value));
     }
     statements.push(statement)?;
     Ok(true)
@@ -201,6 +319,7 @@ fn put_statement(
 /// none. The only fault is want of memory.
 fn put_statements(
     program: &Program,
+    plain: &Vec<PlainMethod>,
     simple: &SimpleParts,
     statements: &mut Vec<Straight>,
     end: NodeId,
@@ -211,7 +330,7 @@ fn put_statements(
 {
     let mut rest = count;
     while rest > 0 {
-        if !put_statement(program, simple, statements, end.saturating_sub(rest))? {
+        if !put_statement(program, plain, simple, statements, end.saturating_sub(rest))? {
             return Ok(false);
         }
         rest -= 1;
@@ -219,10 +338,11 @@ fn put_statements(
     Ok(true)
 }
 
-/// Where the statements of the loop at a place begin, where it is such a loop: they are put behind the others. The only fault is want of
-/// memory.
+/// Where the statements of the loop at a place begin, where it is such a loop: they are put behind the others. A block whose statements need
+/// no frame has none there. The only fault is want of memory.
 fn put_loop(
     program: &Program,
+    plain: &Vec<PlainMethod>,
     simple: &SimpleParts,
     statements: &mut Vec<Straight>,
     place: NodeId,
@@ -233,6 +353,9 @@ fn put_loop(
     let Ok(start) = u32::try_from(statements.len()) else {
         return Ok(None);
     };
+    if is_block(program, simple, place) {
+        return Ok(Some(start));
+    }
     let Node::Loop {
         condition,
         body,
@@ -249,6 +372,7 @@ fn put_loop(
     };
     match put_statements(
         program,
+        plain,
         simple,
         statements,
         first.saturating_add(count),
@@ -259,11 +383,11 @@ fn put_loop(
     }
 }
 
-/// Whether a loop may stand at a place: one does, or an item of a list, which stands for its part.
+/// Whether a loop or a block may stand at a place: one does, or an item of a list, which stands for its part.
 #[inline(always)]
 fn may_be_loop(program: &Program, place: NodeId) -> bool {
     match node_at(program, place) {
-        Some(&Node::Loop { .. }) | Some(&Node::Item(_)) => true,
+        Some(&Node::Loop { .. }) | Some(&Node::Block { .. }) | Some(&Node::Item(_)) => true,
         _ => false,
     }
 }
@@ -282,6 +406,7 @@ fn put_start(starts: &mut Vec<Option<u32>>, place: usize, start: u32) -> Result<
 #[inline(always)]
 fn put_place(
     program: &Program,
+    plain: &Vec<PlainMethod>,
     simple: &SimpleParts,
     loops: &mut StraightLoops,
     place: NodeId,
@@ -292,7 +417,7 @@ fn put_place(
     if !may_be_loop(program, place) {
         return Ok(());
     }
-    let Some(start) = put_loop(program, simple, &mut loops.statements, place)? else {
+    let Some(start) = put_loop(program, plain, simple, &mut loops.statements, place)? else {
         return Ok(());
     };
     put_start(&mut loops.starts, place as usize, start)?;
@@ -303,6 +428,7 @@ fn put_place(
 pub fn straight_loops(
     alloc: Global,
     program: &Program,
+    plain: &Vec<PlainMethod>,
     simple: &SimpleParts,
 ) -> Result<StraightLoops, AllocError>
     ensures { IfOk result (λ loops. AreStraight program.now.nodes.items loops.statements.items) }
@@ -315,7 +441,7 @@ pub fn straight_loops(
         let Ok(place) = u32::try_from(number) else {
             return Ok(loops);
         };
-        put_place(program, simple, &mut loops, place)?;
+        put_place(program, plain, simple, &mut loops, place)?;
     }
     Ok(loops)
 }

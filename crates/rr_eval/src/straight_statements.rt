@@ -181,17 +181,20 @@ impl Engine {
         })
     }
 
-    /// Does the statement that stands at a place, where it needs no frame and has no number: an assignment with an operator, or a choice.
+    /// Does the statement that stands at a place, where it needs no frame and has no number: an assignment with an operator or of what a
+    /// call gives, a choice, or a `yield`.
     #[inline(always)]
     fn do_other(&mut self, prepared: &Prepared, space: &Space, place: NodeId) -> Option<Quick>
         ensures sets { IfSome result (λ q. SetsNow prepared.now.program (view_of self.old) space.now (tree_at prepared.now.program.nodes.items place) q.steps q.value (view_of self.new)) }
-        ensures few { IfSome result (λ q. q.steps ≤ 67) }
+        ensures few { IfSome result (λ q. q.steps ≤ 172) }
         ensures within { (clusters : Option Below) → AreReached (reach (length space.now.slots) clusters) (view_of self.old) → AreReached (reach (length space.now.slots) clusters) (view_of self.new) }
         ensures others { self.new ≡ record self.old { calls = self.new.calls } }
         ensures none { IfNone result (self.new ≡ self.old) }
     {
         match prepared.node(place) {
             Some(&Node::Choose(_, _, _)) => self.do_choice(prepared, space, place),
+            Some(&Node::Assign { .. }) => self.do_called(prepared, space, place),
+            Some(&Node::Yield { .. }) => self.do_yield(prepared, place),
             _ => self.do_update(prepared, place),
         }
     }
@@ -207,7 +210,7 @@ impl Engine {
     ) -> Option<Done>
         requires number { number < 2 ^ 40 }
         ensures sets { IfSome result (λ d. SetsNow prepared.now.program (view_of self.old) space.now (tree_at prepared.now.program.nodes.items place) d.steps d.value (view_of self.new)) }
-        ensures few { IfSome result (λ d. d.steps ≤ 67) }
+        ensures few { IfSome result (λ d. d.steps ≤ 172) }
         ensures number { IfSome result (λ d. d.number ≤ number + 1) }
         ensures within { (clusters : Option Below) → AreReached (reach (length space.now.slots) clusters) (view_of self.old) → AreReached (reach (length space.now.slots) clusters) (view_of self.new) }
         ensures others { self.new ≡ record self.old { calls = self.new.calls } }
@@ -243,7 +246,7 @@ impl Engine {
         requires numbers { from < 2 ^ 32 }
         ensures sets { SetFirst prepared.now.program (view_of self.old) space.now (first + count) count result.rest result.steps result.value (view_of self.new) }
         ensures fewer { result.rest ≤ count }
-        ensures few { result.steps ≤ 67 * count }
+        ensures few { result.steps ≤ 172 * count }
         ensures within { (clusters : Option Below) → AreReached (reach (length space.now.slots) clusters) (view_of self.old) → AreReached (reach (length space.now.slots) clusters) (view_of self.new) }
         ensures others { self.new ≡ record self.old { calls = self.new.calls } }
     {
@@ -270,7 +273,7 @@ impl Engine {
 
 /// The part of a choice that a value chooses.
 #[inline(always)]
-fn chosen_part(value: Ref, yes: NodeId, no: NodeId) -> NodeId
+pub fn chosen_part(value: Ref, yes: NodeId, no: NodeId) -> NodeId
     ensures { (ns : List Nodes) → tree_at ns result ≡ (if is_truthy value then tree_at ns yes else tree_at ns no) }
 {
     match is_truthy(value) {

@@ -22,6 +22,7 @@ use crate::frame::{Control, Frame};
 use crate::prepared::Prepared;
 use crate::problem::Answer;
 use crate::value::goes_on;
+use rr_frames::Given;
 use rr_space::{Ref, Space};
 use rr_tree::{Node, NodeId};
 
@@ -39,7 +40,7 @@ pub enum Round {
 }
 
 /// More steps than a statement takes, or a condition with what is around it.
-const STEPS: u64 = 70;
+const STEPS: u64 = 180;
 
 impl Engine {
     /// One round of a loop, which comes next, where more steps than a number are left. Its body has these statements.
@@ -62,11 +63,11 @@ impl Engine {
         requires list { tree_at prepared.now.program.nodes.items body ≡ evaluated_tree prepared.now.program.nodes.items (Nodes.Sequence first count) }
         requires small { first + count < 2 ^ 32 }
         requires numbers { from < 2 ^ 32 }
-        requires floor { 70 * (count + 1) ≤ floor }
+        requires floor { 180 * (count + 1) ≤ floor }
         ensures goes { Rounded prepared.now.program (view_of self.old) space.now here (first + count) result (view_of self.new) }
         ensures within { (clusters : Option Below) → AreReached (reach (length space.now.slots) clusters) (view_of self.old) → AreReached (reach (length space.now.slots) clusters) (view_of self.new) }
         ensures others { self.new ≡ record self.old { calls = self.new.calls; left = self.new.left } }
-        ensures enough { floor < self.old.left → floor < self.new.left + 70 * (count + 1) }
+        ensures enough { floor < self.old.left → floor < self.new.left + 180 * (count + 1) }
         ensures kept { self.new.left ≤ self.old.left }
         ensures spends { IsDone result → self.new.left < self.old.left }
     {
@@ -108,12 +109,12 @@ impl Engine {
         requires list { tree_at prepared.now.program.nodes.items body ≡ evaluated_tree prepared.now.program.nodes.items (Nodes.Sequence first count) }
         requires small { first + count < 2 ^ 32 }
         requires numbers { from < 2 ^ 32 }
-        requires floor { 70 * (count + 1) ≤ floor }
+        requires floor { 180 * (count + 1) ≤ floor }
         requires some { floor < self.old.left }
         ensures goes { Rounded prepared.now.program (view_of self.old) space.now here (first + count) result (view_of self.new) }
         ensures within { (clusters : Option Below) → AreReached (reach (length space.now.slots) clusters) (view_of self.old) → AreReached (reach (length space.now.slots) clusters) (view_of self.new) }
         ensures others { self.new ≡ record self.old { calls = self.new.calls; left = self.new.left } }
-        ensures enough { floor < self.new.left + 70 * (count + 1) }
+        ensures enough { floor < self.new.left + 180 * (count + 1) }
         ensures kept { self.new.left ≤ self.old.left }
         ensures spends { IsDone result → self.new.left < self.old.left }
     {
@@ -218,6 +219,18 @@ impl Engine {
         self.end_straight(here, first + count, gone)
     }
 
+    /// Whether a loop may come to a block whose statements need a frame: its method is given one.
+    #[inline(always)]
+    fn is_given_other(&self, prepared: &Prepared) -> bool {
+        match self.calls.running().given {
+            Given::Nothing => false,
+            Given::Block { block, .. } => match self.block_at(block) {
+                Some(place) => prepared.straight_from(place).is_none(),
+                None => true,
+            },
+        }
+    }
+
     /// Evaluates a loop: where its statements need no frames, its rounds are done one after the other. It is called, and not compiled in
     /// place, since a loop comes here once for all its rounds most of the time.
     #[cold]
@@ -245,6 +258,7 @@ impl Engine {
         ensures falls { power (view_of self.new) + self.old.left ≤ power (view_of self.old) + self.new.left }
     {
         if let Some(from) = prepared.straight_from(here)
+            && !self.is_given_other(prepared)
             && self.try_straight(prepared, space, here, until, condition, body, from, stop)
         {
             return;

@@ -31,6 +31,7 @@ use crate::engine::{Engine, push_within};
 use crate::frame::{Control, Frame, standing};
 use crate::iterating::{Ahead, Iterating, Visits, below, element_ahead, kept, up_to, value_at};
 use crate::iterations::spreads_few;
+use crate::prepared::Prepared;
 use crate::problem::Answer;
 use rr_builtin::Iteration;
 use rr_frames::Shape;
@@ -53,7 +54,7 @@ fn keeps(iteration: Iteration) -> bool
 
 /// What is ahead of an iteration that keeps nothing, over what is no hash.
 #[inline(always)]
-fn ahead_often(space: &Space, visits: Visits, stand: &[Ref]) -> Option<Ahead>
+pub fn ahead_often(space: &Space, visits: Visits, stand: &[Ref]) -> Option<Ahead>
     ensures is { IfSome result (λ a. a ≡ ahead visits stand.now space.now) }
     ensures keeps { IfSome result (λ _. (v : Ref) → kept visits v stand.now space.now ≡ Ok None) }
     ensures apart { IfSome result (λ a. (first last : Option Ref) (more : Visits) (shape : Option Shape) → a ≡ Ahead.Another first last more → takes_array more shape ≡ Bool.false) }
@@ -309,7 +310,7 @@ impl Engine {
     #[inline(always)]
     pub fn resume_turn(
         &mut self,
-        program: &Program,
+        prepared: &Prepared,
         space: &Space,
         iteration: Iterating,
         value: Ref,
@@ -319,7 +320,7 @@ impl Engine {
         requires top { IsTop self.old.frames.items (Frame.Round iteration) }
         requires nested { IsNested (view_of self.old) }
         requires within { stop ≤ self.old.left }
-        ensures goes { (h : Course) → remaining program.now (view_of self.old) space.now h ≡ remaining program.now (view_of self.new) space.now h }
+        ensures goes { (h : Course) → remaining prepared.now.program (view_of self.old) space.now h ≡ remaining prepared.now.program (view_of self.new) space.now h }
         ensures nested { IsNested (view_of self.new) }
         ensures within { (clusters : Option Below) → AreReached (reach (length space.now.slots) clusters) (view_of self.old) → AreReached (reach (length space.now.slots) clusters) (view_of self.new) }
         ensures left { stop ≤ self.new.left }
@@ -329,11 +330,18 @@ impl Engine {
     {
         self.take_top(Frame::Round(iteration), Answer::Gave(value));
         self.pop_call();
-        if self.begin_next(program, space, iteration, value) {
+        let done = self.try_turns(prepared, space, iteration, value, stop);
+        let next = Iterating {
+            visits: done.visits,
+            ..iteration
+        };
+        let program = &prepared.program;
+        if self.begin_next(program, space, next, done.value) {
             self.enter_body(program, stop);
             return true;
         }
-        push_within(&mut self.frames, Frame::Turned(iteration));
+        push_within(&mut self.frames, Frame::Turned(next));
+        self.control = Control::Give(Answer::Gave(done.value));
         false
     }
 

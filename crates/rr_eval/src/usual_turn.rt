@@ -389,7 +389,7 @@ impl Engine {
                 Visits::Elements(Iteration::Map, _) | Visits::Elements(Iteration::Select, _) => {
                     return self.resume_apart(prepared, space, stop);
                 }
-                _ => return self.resume_turn(program, space, iteration, value, stop),
+                _ => return self.resume_turn(prepared, space, iteration, value, stop),
             },
             Some(&Frame::SetField(_)) => return false,
             Some(&Frame::Argument(_, _, _, _))

@@ -10,7 +10,7 @@ abbrev pub invariant-loop-done : goal.invariant-loop-done
 invariant-loop-done l = record {
   sets : SetFirst l.prepared.program (view_of l.fn.self) l.space (l.first + l.count) l.count (l.count - l.done) l.steps l.value (view_of l.self);
   fewer : l.done ≤ l.count;
-  few : l.steps ≤ 67 * l.done;
+  few : l.steps ≤ 172 * l.done;
   number : l.number ≤ l.from + l.done;
   within : (clusters : Option Below) → AreReached (reach (length l.space.slots) clusters) (view_of l.fn.self) → AreReached (reach (length l.space.slots) clusters) (view_of l.self);
   others : l.self ≡ record l.fn.self { calls = l.self.calls };
