@@ -90,6 +90,8 @@ mod table;
 #[cfg(test)]
 mod targets;
 #[cfg(test)]
+mod unframed;
+#[cfg(test)]
 mod updating;
 #[cfg(test)]
 mod usual;
