@@ -178,22 +178,33 @@ fn is_choice(program: &Program, simple: &SimpleParts, place: NodeId) -> bool {
     }
 }
 
-/// Whether a part leaves what is around it.
+/// Whether a part leaves what is around it for good, which it does once at most. A `next` is not meant.
 fn leaves(program: &Program, place: NodeId) -> bool {
     match evaluated_node(program, place) {
-        Node::Break(_) | Node::Next(_) | Node::Return(_) => true,
+        Node::Break(_) | Node::Return(_) => true,
         _ => false,
     }
 }
 
-/// Whether `count` statements from `first` on are choices.
-fn are_choices(program: &Program, first: NodeId, count: u32) -> bool {
+/// Whether a choice stands at a place whose condition needs no frame, and that does nothing or leaves what is around it for good.
+fn is_exit(program: &Program, simple: &SimpleParts, place: NodeId) -> bool {
+    let Node::Choose(condition, yes, no) = evaluated_node(program, place) else {
+        return false;
+    };
+    match (evaluated_node(program, yes), evaluated_node(program, no)) {
+        (_, Node::Nil) => needs_no_frame(simple, condition) && leaves(program, yes),
+        (Node::Nil, _) => needs_no_frame(simple, condition) && leaves(program, no),
+        _ => false,
+    }
+}
+
+/// Whether `count` statements from `first` on are such choices.
+fn are_exits(program: &Program, simple: &SimpleParts, first: NodeId, count: u32) -> bool {
     let mut rest = count;
     while rest > 0 {
         rest -= 1;
-        match evaluated_node(program, first.saturating_add(rest)) {
-            Node::Choose(_, _, _) => {}
-            _ => return false,
+        if !is_exit(program, simple, first.saturating_add(rest)) {
+            return false;
         }
     }
     true
@@ -211,7 +222,7 @@ fn is_outward(program: &Program, simple: &SimpleParts, place: NodeId) -> bool {
     }
 }
 
-/// Whether a block stands at a place whose statements need no frame: the last one assigns, and the others are choices.
+/// Whether a block stands at a place whose statements need no frame: the last one assigns, and the others are such choices.
 fn is_block(program: &Program, simple: &SimpleParts, place: NodeId) -> bool {
     let Node::Block { body, .. } = evaluated_node(program, place) else {
         return false;
@@ -220,7 +231,7 @@ fn is_block(program: &Program, simple: &SimpleParts, place: NodeId) -> bool {
         Node::Sequence { first, count } => {
             count > 0
                 && is_outward(program, simple, first.saturating_add(count - 1))
-                && are_choices(program, first, count - 1)
+                && are_exits(program, simple, first, count - 1)
         }
         _ => false,
     }
@@ -234,13 +245,13 @@ fn is_yield(program: &Program, simple: &SimpleParts, place: NodeId) -> bool {
     }
 }
 
-/// Whether some statements end with a part that is taken for an integer, behind choices.
+/// Whether some statements end with a part that is taken for an integer, behind choices that do nothing or leave the method.
 fn is_result(program: &Program, simple: &SimpleParts, body: NodeId) -> bool {
     match evaluated_node(program, body) {
         Node::Sequence { first, count } => {
             count > 0
                 && is_integer(simple, first.saturating_add(count - 1))
-                && are_choices(program, first, count - 1)
+                && are_exits(program, simple, first, count - 1)
         }
         _ => false,
     }

@@ -20,6 +20,7 @@ use crate::frame::{Frame, standing};
 use crate::iterating::{Ahead, Iterating, Visits};
 use crate::prepared::Prepared;
 use crate::usual_rounds::ahead_often;
+use crate::value::is_object;
 use rr_space::{Ref, Space};
 use rr_tree::Node;
 
@@ -116,7 +117,7 @@ impl Engine {
         last
     }
 
-    /// The same, where turns may be done so at all.
+    /// The same, where turns may be done so at all. A turn that has an object is most likely followed by another such one, which cannot.
     #[inline(always)]
     pub fn try_turns(
         &mut self,
@@ -135,7 +136,8 @@ impl Engine {
         ensures left { stop ≤ self.new.left }
         ensures kept { self.new.left ≤ self.old.left }
     {
-        if prepared.straight_from(iteration.block).is_some()
+        if !is_object(value)
+            && prepared.straight_from(iteration.block).is_some()
             && let Some(
                 &Node::Block {
                     parameters: 1,

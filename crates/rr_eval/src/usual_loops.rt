@@ -17,11 +17,12 @@ ghost use Rattle.rr_eval.specs.View.{View};
 ghost use Rattle.rr_eval.specs.Views.{view_of};
 ghost use Rattle.rr_eval.specs.Within.{Reach, reach, AreReached};
 
+use crate::call_stack::Variable;
 use crate::engine::Engine;
 use crate::frame::{Control, Frame};
 use crate::prepared::Prepared;
 use crate::problem::Answer;
-use crate::value::goes_on;
+use crate::value::{goes_on, is_object};
 use rr_frames::Given;
 use rr_space::{Ref, Space};
 use rr_tree::{Node, NodeId};
@@ -231,6 +232,26 @@ impl Engine {
         }
     }
 
+    /// Whether the variable to which the first statement of a loop assigns has an object now, so that its next value may be one too.
+    #[inline(always)]
+    fn assigns_object(&self, prepared: &Prepared, here: NodeId) -> bool {
+        if let Some(&Node::Loop { body, .. }) = prepared.node(here)
+            && let Some(&Node::Sequence { first, .. }) = prepared.node(body)
+            && let Some(&Node::Assign { depth, slot, .. }) = prepared.node(first)
+        {
+            return is_object(self.variable(Variable { depth, slot }));
+        }
+        false
+    }
+
+    /// Whether a loop whose rounds may need no frames most likely needs none now. It is called, and not compiled in place, for the registers
+    /// of the acts around it.
+    #[cold]
+    #[inline(never)]
+    pub fn is_promising(&self, prepared: &Prepared, here: NodeId) -> bool {
+        !self.is_given_other(prepared) && !self.assigns_object(prepared, here)
+    }
+
     /// Evaluates a loop: where its statements need no frames, its rounds are done one after the other. It is called, and not compiled in
     /// place, since a loop comes here once for all its rounds most of the time.
     #[cold]
@@ -258,7 +279,7 @@ impl Engine {
         ensures falls { power (view_of self.new) + self.old.left ≤ power (view_of self.old) + self.new.left }
     {
         if let Some(from) = prepared.straight_from(here)
-            && !self.is_given_other(prepared)
+            && self.is_promising(prepared, here)
             && self.try_straight(prepared, space, here, until, condition, body, from, stop)
         {
             return;

@@ -188,7 +188,7 @@ impl Engine {
         self.take_top(Frame::Body(here), Answer::Gave(value));
         self.control.enter(here);
         // A loop whose rounds need no frames is begun again as a whole.
-        if let Some(_) = prepared.straight_from(here) {
+        if prepared.straight_from(here).is_some() && self.is_promising(prepared, here) {
             return;
         }
         if self.left > stop {

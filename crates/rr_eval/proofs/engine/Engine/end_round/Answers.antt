@@ -15,7 +15,7 @@ returns-clause-within c clusters h =
       | else-self-stop w ↦ c.enter_statements.ensures.within k (rw w.self-is entered)
     ]
 
-pub returns-in-Some-clause-within : goal.returns-in-Some-clause-within
-returns-in-Some-clause-within c clusters h =
+pub returns-then-is_promising-clause-within : goal.returns-then-is_promising-clause-within
+returns-then-is_promising-clause-within c clusters h =
     let k = reach (length c.args.space.now.slots) clusters in
     with_control k (view_of c.drop_top.new.self) c.enter.new.self (c.drop_top.ensures.within k h) (subst (IsControlReached k) (sym c.enter.ensures) tt)

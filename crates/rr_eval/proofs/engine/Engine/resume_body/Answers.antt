@@ -15,7 +15,7 @@ returns-else-self-stop-clause-within c clusters h =
     let k = reach (length c.args.space.now.slots) clusters in
     with_control k (view_of c.take_top.new.self) c.enter.new.self (c.take_top.ensures.within k h) (subst (IsControlReached k) (sym c.enter.ensures) tt)
 
-pub returns-in-Some-clause-within : goal.returns-in-Some-clause-within
-returns-in-Some-clause-within c clusters h =
+pub returns-then-is_promising-clause-within : goal.returns-then-is_promising-clause-within
+returns-then-is_promising-clause-within c clusters h =
     let k = reach (length c.args.space.now.slots) clusters in
     with_control k (view_of c.take_top.new.self) c.enter.new.self (c.take_top.ensures.within k h) (subst (IsControlReached k) (sym c.enter.ensures) tt)
