@@ -3,11 +3,11 @@
 #   ruby -W0 bench/scripts_by_chance.rb PROGRAM [FIRST [COUNT]]
 #
 # PROGRAM is the built `ractor`. Each number from FIRST on (0) makes one script, the same each time: classes, of exceptions too, with
-# attributes and `super`, methods with blocks, loops, clauses and `ensure` parts inside one another, iterations, containers and
-# operators, most of them on values that do not suit. The script runs
-# in PROGRAM and in a CRuby that bench/profile.rb and bench/strict.rb have bent to the language; each number whose outputs or errors
-# differ is printed, and last the counts. A script that one of the two refuses as a syntax error wants the other to refuse it too; one
-# that needs what is not evaluated yet is passed over, and so is one that takes CRuby more than ten seconds. It is no part of the gate.
+# attributes and `super`, methods with blocks, short methods, loops, clauses and `ensure` parts inside one another, iterations, containers
+# and operators, most of them on values that do not suit. The script runs in PROGRAM and in a CRuby that bench/profile.rb and
+# bench/strict.rb have bent to the language; each number whose outputs or errors differ is printed, and last the counts. A script that one
+# of the two refuses as a syntax error wants the other to refuse it too; one that needs what is not evaluated yet is passed over, and so is
+# one that takes CRuby more than ten seconds. It is no part of the gate.
 
 require "open3"
 require "rbconfig"
@@ -38,7 +38,7 @@ class Script
   end
 
   def text
-    definitions = Array.new(any(4)) { |number| definition(number) } + Array.new(any(4)) { |number| class_of(number) }
+    definitions = Array.new(any(4)) { |number| definition(number) } + short_methods + Array.new(any(4)) { |number| class_of(number) }
     start = "a = #{@classes.empty? ? pick('1', '[]', '"q"', 'nil') : made}; b = #{pick('2', '{}', '[1, 2]')}; c = #{pick('3', ':z', '"w"')}"
     (definitions + [start] + Array.new(2 + any(4)) { statement }).join("\n") + "\n"
   end
@@ -211,7 +211,7 @@ class Script
     when 33 then "#{goal}, #{goal}#{pick('', ", #{goal}")} = #{pick(atom, "#{atom}, #{expression}")}"
     when 34 then "#{place} #{pick('', '+', '*', '||', '&&', '<<')}= #{expression}"
     when 35 then otherwise
-    when 36, 37 then assigning_loop
+    when 36, 37 then pick(assigning_loop, assigning_turns)
     when 32 then @in_method ? "p(A)" : "#{pick('A', 'B')} ||= #{expression}"
     else "p(#{expression})"
     end
@@ -248,10 +248,25 @@ class Script
     "#{counter} = 0; #{pick("while #{counter} <", "until #{counter} >=")} #{1 + any(6)}; #{round.join('; ')}; end; p(#{pick(*NAMES)})"
   end
 
+  # Two short methods, and one that gives its block integers: what calls them needs no frames as long as the values are integers.
+  def short_methods
+    early, earlier = Array.new(2) { likely?(0.4) ? "return #{pick('x', any(4))} if x #{pick('<', '>', '==')} #{any(4)}; " : "" }
+    ["def s0(x); i = 0; while i < x; i += 1; yield i; end; i; end", "def s1(x); #{early}x #{pick('+', '-', '*', '/', '<')} #{any(4)}; end",
+     "def s2(x, y); #{earlier}x #{pick('+', '-')} y #{pick('+', '*', '%')} #{pick('x', any(4))}; end"]
+  end
+
+  # Turns of a block that only assigns to a variable outside of it, behind what may end them.
+  def assigning_turns
+    turns = pick("#{any(5)}.times", "#{any(3)}.upto(4)", "[1, 2, 3].each", "[4, nil, 5].each", "s0(#{any(5)})")
+    ends = likely?(0.4) ? "#{pick('break', 'next')} if x #{pick('<', '>', '==')} #{any(4)}; " : ""
+    "#{turns} { |x| #{ends}#{pick(*NAMES)} #{pick("= #{pick(*NAMES)} #{pick('+', '-', '*')} x", "#{pick('+', '-')}= x", '= x')} }; p(#{pick(*NAMES)})"
+  end
+
   def assignment
     left, right, last = Array.new(3) { likely?(0.8) ? pick(*NAMES, any(9)) : atom }
     first, second = Array.new(2) { pick('+', '-', '/', '%', '<', '==') }
-    set = pick("= #{left}", "= #{left} #{first} #{right}", "= #{left} #{first} #{right} #{second} #{last}", "#{pick('+', '-', '%')}= #{left}")
+    set = pick("= #{left}", "= #{left} #{first} #{right}", "= #{left} #{first} #{right} #{second} #{last}", "#{pick('+', '-', '%')}= #{left}",
+               "= s1(#{left})", "= s2(#{left}, #{right}) #{first} #{last}")
     likely?(0.3) ? "begin; #{pick(*NAMES)} #{set}; rescue#{pick('', ' TypeError')} => e; p e.class; end" : "#{pick(*NAMES)} #{set}"
   end
 
