@@ -146,7 +146,7 @@ impl CallStack {
 
     /// The number of the next frame, where there may be one more.
     #[inline(always)]
-    pub fn next(&self) -> Option<u32>
+    pub fn next_number(&self) -> Option<u32>
         ensures number { IfSome result (λ n. n ≡ length self.now.frames) }
         ensures room { IfSome result (λ _. nat_lt (length self.now.frames) self.now.limit ≡ true) }
     {

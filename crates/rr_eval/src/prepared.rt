@@ -198,7 +198,8 @@ impl Prepared {
         needs_no_frame(&self.simple, place)
     }
 
-    /// Where the statements of the loop at a place begin, where they assign integers to local variables alone.
+    /// Where the statements of the loop at a place begin, where they assign integers to local variables alone; any number for a block whose
+    /// statements need no frame.
     #[inline(always)]
     pub(crate) fn straight_from(&self, place: NodeId) -> Option<u32> {
         match self.straight.starts.get(place as usize) {

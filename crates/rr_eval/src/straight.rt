@@ -166,13 +166,14 @@ fn is_part(program: &Program, simple: &SimpleParts, place: NodeId) -> bool {
     }
 }
 
-/// Whether a choice stands at a place whose condition and one part of which need no frame. The other one may leave what is around it.
+/// Whether a choice stands at a place whose condition and parts need no frame, or one that does nothing or leaves what is around it.
 fn is_choice(program: &Program, simple: &SimpleParts, place: NodeId) -> bool {
     match evaluated_node(program, place) {
         Node::Choose(condition, yes, no) => {
-            needs_no_frame(simple, condition)
-                && (is_part(program, simple, yes) || leaves(program, yes))
-                && (is_part(program, simple, no) || leaves(program, no))
+            is_exit(program, simple, place)
+                || needs_no_frame(simple, condition)
+                    && is_part(program, simple, yes)
+                    && is_part(program, simple, no)
         }
         _ => false,
     }

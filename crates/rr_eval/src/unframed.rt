@@ -18,7 +18,7 @@ use crate::simple_parts::{ApartPart, SimplePart};
 use crate::straight_statements::chosen_part;
 use crate::usual::{Quick, operated};
 use rr_space::Ref;
-use rr_tree::{BinaryOperator, Node, NodeId};
+use rr_tree::{Node, NodeId};
 
 /// The most statements of a body: what is done at once has few steps.
 const MOST: u32 = 4;

@@ -79,7 +79,7 @@ impl Engine {
         {
             return None;
         }
-        let home = self.calls.next()?;
+        let home = self.calls.next_number()?;
         let found = self.result_unframed(prepared, values, home, first, count)?;
         Some(Quick {
             value: found.value,
@@ -196,7 +196,7 @@ impl Engine {
         if size < 1 {
             return None;
         }
-        self.calls.next()?;
+        self.calls.next_number()?;
         let done = self.block_unframed(prepared, &[value], home, place)?;
         Some(Quick {
             value: done.value,

@@ -146,7 +146,7 @@ impl Engine {
                 },
             ) = prepared.node(iteration.block)
             && size > 0
-            && self.calls.next().is_some()
+            && self.calls.next_number().is_some()
         {
             return self.run_turns(prepared, space, iteration, value, size, stop);
         }

@@ -25,4 +25,4 @@ returns-clause-sets c = λ t.
     ap (λ z. shape_in (Some z)) (node.ensures.tree ∙ ap (evaluated_tree ns) node.field-0-is) ∙ ap (λ k. Some (record { parameters = k; size = node.size })) one in
     let least = c.if-size-lt1.false in
     let some : 0 < node.size = omega (arith, least) in
-    block_gives p m (view_of c.block_unframed.new.self) t c.args.home node.size done.steps c.args.value tree b done.value is shape some c.in_ok-next.ensures.room c.in_ok-done.ensures.sets
+    block_gives p m (view_of c.block_unframed.new.self) t c.args.home node.size done.steps c.args.value tree b done.value is shape some c.in_ok-next_number.ensures.room c.in_ok-done.ensures.sets
