@@ -57,13 +57,13 @@ frame_below : (fs : List Activated) (f : Activated) (number : ℕ) → number < 
 frame_below fs f number lt = get_or_append_left fs (f ∷ []) no_frame number lt
 
 -- the frame itself
-frame_above : (fs : List Activated) (f : Activated) → frame_at (length fs) (fs ++ f ∷ []) ≡ f
+pub frame_above : (fs : List Activated) (f : Activated) → frame_at (length fs) (fs ++ f ∷ []) ≡ f
 frame_above fs f =
     let none : length fs - length fs ≡ 0 = omega arith in
     get_or-append_right fs (f ∷ []) (length fs) (length fs) no_frame refl (omega arith) ∙ ap (λ i. get_or (f ∷ []) i no_frame) none
 
 -- it runs
-runs_above : (fs : List Activated) (f : Activated) → top (fs ++ f ∷ []) ≡ length fs
+pub runs_above : (fs : List Activated) (f : Activated) → top (fs ++ f ∷ []) ≡ length fs
 runs_above fs f = let count = length-append fs (f ∷ []) in omega (arith, count)
 
 -- a frame that is there lies in the same one

@@ -13,6 +13,10 @@ pub mod Depth
 pub mod Unknown
 pub mod Unwind
 pub mod Frameless
+pub mod Bases
+pub mod BaseCases
+pub mod Filled
+pub mod Becoming
 pub mod Entered
 pub mod Quickly
 pub mod QuickParts

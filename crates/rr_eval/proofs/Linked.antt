@@ -1,8 +1,8 @@
 -- Operators one after the other, and where their links lie.
-use Rattle.std.proofs.Common.{◌≡◌, ℕ, ◌+◌, ◌-◌, ◌<◌, ◌≤◌, ◌∙◌, ap, refl, sym, arith, List, [], ◌∷◌, ◌++◌, length, take, drop, get_or, false}
+use Rattle.std.proofs.Common.{◌≡◌, ℕ, ◌+◌, ◌-◌, ◌<◌, ◌≤◌, ◌∙◌, ap, refl, sym, arith, List, [], ◌∷◌, ◌++◌, length, take, drop, get_or, false, Some}
 use Rattle.std.proofs.lemmas.List.{drop-append-le, take-append-le, take_all, length-drop, length-append}
 use Rattle.rr_parser.specs.Grammar.Names.{is_splat}
-use Rattle.rr_tree.specs.Tree.{Tree, binary, tree_at}
+use Rattle.rr_tree.specs.Tree.{Tree, call, binary, tree_at}
 use Rattle.rr_tree.specs.declared.program.Program.{Program}
 use Rattle.rr_eval.specs.declared.chains.Chain.{Chain}
 use Rattle.rr_eval.specs.declared.chains.Link.{Link}
@@ -10,12 +10,16 @@ use Rattle.rr_eval.specs.declared.simple_parts.ApartPart.{ApartPart}
 use Rattle.rr_eval.specs.declared.simple_parts.ApartPart.TheVariants as apart
 use Rattle.rr_eval.specs.declared.simple_parts.SimplePart.{SimplePart}
 use Rattle.rr_eval.specs.declared.simple_parts.SimplePart.TheVariants.{Variable, Int, WithInt, WithVariable, Value, Itself, Apart, Other}
-use Rattle.rr_eval.specs.SimpleParts.{AreSimple, IsApart, IsSimple, IsChain, IsLinked, linked, links_of, longest}
+use Rattle.rr_eval.specs.SimpleParts.{AreSimple, IsApart, IsSimple, IsChain, IsFilled, IsLinked, linked, links_of, longest}
 
 -- the first of some links, and the others
 pub front : (links : List Link) (none : Link) → 1 ≤ length links → links ≡ get_or links 0 none ∷ take (length links - 1) (drop 1 links)
 front [] none some = absurd (let no : ⊥ = omega (arith, some) in no)
 front (l ∷ ls) none some = ap (λ ks. l ∷ ks) (sym (take_all (length (l ∷ ls) - 1) ls (omega arith)))
+
+pub no_links : (links : List Link) → length links < 1 → links ≡ []
+no_links [] none = refl
+no_links (l ∷ more) none = absurd (let no : ⊥ = omega (arith, none) in no)
 
 -- one more link behind the others
 pub linked_more : (p : Program) (tree : Tree) (ls : List Link) (l : Link) → linked p tree (ls ++ l ∷ []) ≡ binary l.op (linked p tree ls) (tree_at p.nodes.items l.right)
@@ -41,10 +45,18 @@ chain_wider p links l chain tree is =
     let longer : length (links ++ l ∷ []) ≡ length links + 1 = length-append links (l ∷ []) in
     (is.0, (omega (arith, there, longer), ap (linked p (tree_at p.nodes.items chain.first)) (links_wider links l chain there) ∙ is.1.1), is.2)
 
+filled_wider : (p : Program) (links : List Link) (l : Link) (chain : Chain) (body tree : Tree) → IsFilled p links chain body tree → IsFilled p (links ++ l ∷ []) chain body tree
+filled_wider p links l chain body (call x list) is =
+    let there = is.0 in
+    let longer : length (links ++ l ∷ []) ≡ length links + 1 = length-append links (l ∷ []) in
+    (omega (arith, there, longer), is.1, is.2, is.3, is.4 ∙ ap (λ ls. Some (linked p (tree_at p.nodes.items chain.first) ls)) (sym (links_wider links l chain there)))
+filled_wider p links l chain body _ is = is
+
 apart_wider : (p : Program) (links : List Link) (l : Link) (tree : Tree) (a : ApartPart) → IsApart p links tree a → IsApart p (links ++ l ∷ []) tree a
 apart_wider p links l tree (apart.Chain chain) is = chain_wider p links l chain tree is
 apart_wider p links l tree (apart.Field x) is = is
 apart_wider p links l tree (apart.Attribute v x) is = is
+apart_wider p links l tree (apart.Call chain body) is = filled_wider p links l chain (tree_at p.nodes.items body) tree is
 apart_wider p links l tree (apart.Global x) is = is
 apart_wider p links l tree (apart.Constant x class) is = is
 

@@ -155,7 +155,7 @@ first_unset p m t end zero = λ h i. let k : 0 + i ≡ i = omega arith in ap (ru
 first_unset p m t end (suc count) = λ h i. let k : 0 + i ≡ i = omega arith in ap (runs_in (code_of p h.world) (statements (trees_before p.nodes.items end (suc count))) (state_of p m t h)) k
 
 -- the first of some statements is done
-next_set : (p : Program) (m n : View) (t : Table) (end rest steps : ℕ) (v : Ref) → SetsNow p m t (tree_at p.nodes.items (end - suc rest)) steps v n → SetFirst p m t end (suc rest) rest steps v n
+pub next_set : (p : Program) (m n : View) (t : Table) (end rest steps : ℕ) (v : Ref) → SetsNow p m t (tree_at p.nodes.items (end - suc rest)) steps v n → SetFirst p m t end (suc rest) rest steps v n
 next_set p m n t end zero steps v sets = λ h i. ap (λ o. after o (λ (r : Answer). runs_in (code_of p h.world) (Ret r))) (sets h i)
 next_set p m n t end (suc rest) steps v sets = λ h i.
     ap (λ o. after o (λ (r : Answer). runs_in (code_of p h.world) (on_value (λ w. statements (trees_before p.nodes.items end (suc rest))) r))) (sets h i)

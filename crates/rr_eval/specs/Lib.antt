@@ -61,4 +61,7 @@ pub mod Alone
 pub mod Runs
 pub mod Straight
 pub mod StraightRounds
+pub mod BaseCases
 pub mod Unframed
+pub mod Endings
+pub mod Filled

@@ -1,9 +1,9 @@
 -- Parts that are evaluated without a frame, by what stands in the program.
-use Rattle.std.specs.Prelude.{◌≡◌, ◌+◌, ◌<◌, ◌≤◌, ℕ, List, [], ◌∷◌, length, take, drop, Option, None, Some, slice_get, slice_index_or}
+use Rattle.std.specs.Prelude.{◌≡◌, ◌+◌, ◌<◌, ◌≤◌, ℕ, zero, suc, Bool, true, false, List, [], ◌∷◌, length, take, drop, Option, None, Some, if◌then◌else◌, slice_get, slice_index_or}
 use Rattle.std.specs.Option.{option_map}
 use Rattle.std.proofs.Props.{props}
 use Rattle.rr_base.specs.ClassNames.{class_named as built_in_named}
-use Rattle.rr_tree.specs.Tree.{Tree, nil, truth, int, symbol, itself, class_named, constant, local, field, global, send, empty, binary, tree_at}
+use Rattle.rr_tree.specs.Tree.{Tree, nil, truth, int, symbol, itself, class_named, constant, local, field, global, send, call, sequence, empty, then_one, binary, tree_at}
 use Rattle.rr_tree.specs.declared.node.BinaryOperator.{BinaryOperator}
 use Rattle.rr_tree.specs.declared.node.Path.TheVariants.{Plain}
 use Rattle.rr_tree.specs.declared.program.Program.{Program}
@@ -11,6 +11,7 @@ use Rattle.rr_tree.specs.Sets.{Tree-set}
 use Rattle.rr_space.specs.Parts.{truth_ref}
 use Rattle.rr_space.specs.declared.refer.Ref.{Ref}
 use Rattle.rr_space.specs.declared.refer.Ref.TheVariants.{Nil, Symbol, Class}
+use Rattle.rr_eval.specs.Basics.{items}
 use Rattle.rr_eval.specs.Constants.{own_class}
 use Rattle.rr_eval.specs.Turns.{context_of}
 use Rattle.rr_eval.specs.declared.chains.Chain.{Chain}
@@ -79,12 +80,60 @@ abbrev pub attribute_in : Tree → Option (Local × ℕ)
 attribute_in (send a x empty) = named_operand (operand_of a) x
 attribute_in _ = None
 
--- a part for which a function of its own is called is what it is taken for: a chain, a variable, an attribute, or a constant that is no class
--- of the program, beside the built-in class of its name
+-- whether trees are leaves: integers, or local variables
+abbrev pub is_leaf : Tree → Bool
+is_leaf (int z) = true
+is_leaf (local depth slot x behind) = true
+is_leaf _ = false
+
+abbrev pub are_leaves : List Tree → Bool
+are_leaves [] = true
+are_leaves (a ∷ more) = if is_leaf a then are_leaves more else false
+
+-- the tree that stands for a variable of a frame, where it is one of its own
+abbrev pub argument_of : List Tree → ℕ → ℕ → Option Tree
+argument_of trees zero slot = slice_get trees slot
+argument_of trees (suc depth) slot = None
+
+abbrev pub operator_on : BinaryOperator → Option Tree → Option Tree → Option Tree
+operator_on op (Some a) (Some b) = Some (binary op a b)
+operator_on op _ _ = None
+
+-- operators on integers and on the variables of a frame, with these trees in the place of the variables
+abbrev pub filled : List Tree → Tree → Option Tree
+filled trees (int z) = Some (int z)
+filled trees (local depth slot x behind) = argument_of trees depth slot
+filled trees (binary op a b) = operator_on op (filled trees a) (filled trees b)
+filled trees _ = None
+
+-- the tree of a list of one, with these in the place of its variables
+abbrev pub filled_list : List Tree → Tree → Option Tree
+filled_list trees (sequence (then_one empty a)) = filled trees a
+filled_list trees _ = None
+
+-- the most arguments, and links, of a call that is a chain
+abbrev pub most : ℕ
+most = 4
+
+-- A call on `self` with leaves as its arguments, to a method with these statements, is a chain: they are one, and the chain is that with the
+-- arguments in the place of its variables.
+abbrev pub IsFilled : Program → List Link → Chain → Tree → Tree → Type 0
+IsFilled p links chain body (call x list) =
+    (chain.from + chain.count ≤ length links) × (chain.count ≤ most) × (length (items list) ≤ most) × (are_leaves (items list) ≡ true)
+    × (filled_list (items list) body ≡ Some (linked p (tree_at p.nodes.items chain.first) (links_of links chain)))
+IsFilled p links chain body _ = ⊥
+
+pub IsFilled-prop : (p : Program) (links : List Link) (chain : Chain) (body tree : Tree) → IsProp (IsFilled p links chain body tree)
+IsFilled-prop p links chain body (call x list) = Prim.hlevel (props, Tree-set)
+IsFilled-prop p links chain body _ = Prim.hlevel props
+
+-- a part for which a function of its own is called is what it is taken for: a chain, a variable, an attribute, a call that is a chain, or a
+-- constant that is no class of the program, beside the built-in class of its name
 abbrev pub IsApart : Program → List Link → Tree → ApartPart → Type 0
 IsApart p links tree (apart.Chain chain) = IsChain p links chain tree
 IsApart p links tree (apart.Field x) = tree ≡ field x.0
 IsApart p links tree (apart.Attribute v x) = attribute_in tree ≡ Some (v, x.0)
+IsApart p links tree (apart.Call chain body) = IsFilled p links chain (tree_at p.nodes.items body) tree
 IsApart p links tree (apart.Global x) = tree ≡ global x.0
 IsApart p links tree (apart.Constant x class) = (tree ≡ constant (Plain x)) × (own_class p x.0 ≡ None) × (class ≡ built_in_named (slice_index_or (context_of p).symbols x.0 []))
 
@@ -92,6 +141,7 @@ pub IsApart-prop : (p : Program) (links : List Link) (tree : Tree) (a : ApartPar
 IsApart-prop p links tree (apart.Chain chain) = Prim.hlevel (props, Tree-set)
 IsApart-prop p links tree (apart.Field x) = Prim.hlevel (props, Tree-set)
 IsApart-prop p links tree (apart.Attribute v x) = Prim.hlevel props
+IsApart-prop p links tree (apart.Call chain body) = IsFilled-prop p links chain (tree_at p.nodes.items body) tree
 IsApart-prop p links tree (apart.Global x) = Prim.hlevel (props, Tree-set)
 IsApart-prop p links tree (apart.Constant x class) = Prim.hlevel (props, Tree-set)
 

@@ -104,7 +104,7 @@ impl Engine {
                 Some(value) => Some(Quick { value, steps: 1 }),
                 None => None,
             },
-            ApartPart::Chain(_) => None,
+            ApartPart::Chain(_) | ApartPart::Call(_, _) => None,
         }
     }
 }

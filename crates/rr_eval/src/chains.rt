@@ -4,7 +4,7 @@ ghost use Rattle.std.specs.Prelude.{◌≡◌, ◌+◌, ◌<◌, ◌≤◌, List
 ghost use Rattle.rr_parser.specs.Grammar.Names.{is_splat};
 ghost use Rattle.rr_space.specs.Tables.{Below};
 ghost use Rattle.rr_tree.specs.Tree.{Tree, binary, tree_at};
-ghost use Rattle.rr_eval.specs.SimpleParts.{AreSimple, IsChain, IsLinked};
+ghost use Rattle.rr_eval.specs.SimpleParts.{AreSimple, IsChain, IsLinked, links_of};
 ghost use Rattle.rr_eval.specs.Usual.{TakesNow};
 ghost use Rattle.rr_eval.specs.Views.{view_of};
 ghost use Rattle.rr_eval.specs.Within.{Reach, reach, IsReached, AreReached};
@@ -35,10 +35,22 @@ pub struct Chain {
 /// The most links of a chain: what is done at once has few steps.
 const LONGEST: u32 = 7;
 
+/// The links of a chain, where they lie there.
+#[inline(always)]
+pub fn links_in(links: &Vec<Link>, chain: Chain) -> Option<&[Link]>
+    ensures { IfSome result (λ own. own.now ≡ links_of links.now.items chain) }
+{
+    let from = chain.from as usize;
+    match links.get(from..from + chain.count as usize) {
+        Some(own) => Some(own),
+        None => None,
+    }
+}
+
 /// Whether a part is taken for one that a link may have as its right operand: one that may be an integer.
 fn is_operand(parts: &Vec<SimplePart>, place: NodeId) -> bool {
     match parts.get(place as usize) {
-        Some(&SimplePart::Apart(ApartPart::Chain(_))) => false,
+        Some(&SimplePart::Apart(ApartPart::Chain(_) | ApartPart::Call(_, _))) => false,
         Some(&SimplePart::Value(_)) | Some(&SimplePart::Other) | None => false,
         Some(_) => true,
     }
@@ -50,6 +62,7 @@ fn chain_at(program: &Program, parts: &Vec<SimplePart>, place: NodeId, from: u32
 {
     match parts.get(place as usize) {
         Some(&SimplePart::Apart(ApartPart::Chain(chain))) => Some(chain),
+        Some(&SimplePart::Apart(ApartPart::Call(_, _))) => None,
         Some(&SimplePart::Value(_)) | Some(&SimplePart::Other) | None => None,
         Some(_) => Some(Chain {
             first: place,
@@ -169,6 +182,7 @@ impl Engine {
         match prepared.part(place) {
             Some(SimplePart::Apart(apart)) => match apart {
                 ApartPart::Chain(chain) => self.chained(prepared, space, place, *chain),
+                ApartPart::Call(_, _) => self.short_call(prepared, space, place),
                 _ => self.read_apart(prepared, space, apart),
             },
             _ => None,

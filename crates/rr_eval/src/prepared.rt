@@ -10,6 +10,7 @@ ghost use Rattle.rr_builtin.specs.Iterations.{iteration_named};
 ghost use Rattle.rr_builtin.specs.Methods.{method_named};
 ghost use Rattle.rr_builtin.specs.News.{is_exception_class};
 ghost use Rattle.rr_space.specs.Kinds.{kind_at};
+ghost use Rattle.rr_eval.specs.BaseCases.{AreBases, AreBases-prop, IsBase};
 ghost use Rattle.rr_eval.specs.Callees.{has_built_in, method_of};
 ghost use Rattle.rr_eval.specs.declared.call.Callee.{Callee as Called};
 ghost use Rattle.rr_eval.specs.Dispatch.{called_name, is_below, comes_first, iteration_of, method_called, method_for, initializer, made_by};
@@ -26,8 +27,9 @@ ghost use Rattle.rr_eval.specs.Straight.{AreStraight, AreStraight-prop, assigned
 ghost use Rattle.rr_eval.specs.Turns.{context_of};
 
 use crate::asking::Saying;
+use crate::base_cases::{BaseCase, base_cases};
 use crate::call::Callee;
-use crate::chains::{Chain, Link};
+use crate::chains::{Chain, Link, links_in};
 use crate::evaluated_nodes::evaluated_nodes;
 use crate::instances::{Initializer, Instances, initializer_of, known_instances};
 use crate::operator_symbols::OperatorSymbols;
@@ -97,8 +99,10 @@ pub struct Prepared {
     nodes: Vec<Node>,
     /// What its parts are.
     pub(crate) simple: SimpleParts,
-    /// The loops whose statements assign integers to local variables.
+    /// The loops whose statements assign integers to local variables, and the blocks whose statements need no frame.
     straight: StraightLoops,
+    /// The choices with which methods begin, by the numbers of their names.
+    bases: Vec<Option<BaseCase>>,
     ghost finds: { IsTableOf program table } by { IsTableOf-prop program table },
     ghost operates: { AreSymbolsOf program operators },
     ghost speaks: { number_in to_s ≡ symbol_named program (codes "to_s") },
@@ -109,6 +113,7 @@ pub struct Prepared {
     ghost knows: { AreKnown (context_of program) instances.items } by { AreKnown-prop (context_of program) instances.items },
     ghost evaluates: { AreEvaluated program.nodes.items nodes.items } by { AreEvaluated-prop program.nodes.items nodes.items },
     ghost straights: { AreStraight program.nodes.items straight.statements.items } by { AreStraight-prop program.nodes.items straight.statements.items },
+    ghost begins: { AreBases program.nodes.items bases.items } by { AreBases-prop program.nodes.items bases.items },
     ghost simples: { AreSimple program simple.links.items simple.parts.items } by { AreSimple-prop program simple.links.items simple.parts.items },
 }
 
@@ -128,6 +133,7 @@ impl Prepared {
         let nodes = evaluated_nodes(alloc, &program)?;
         let simple = simple_parts(alloc, &program, &plain)?;
         let straight = straight_loops(alloc, &program, &plain, &simple)?;
+        let bases = base_cases(alloc, &program, &plain, &simple)?;
         Ok(Prepared {
             program,
             table,
@@ -141,6 +147,7 @@ impl Prepared {
             nodes,
             simple,
             straight,
+            bases,
         })
     }
 
@@ -222,16 +229,23 @@ impl Prepared {
         }
     }
 
+    /// The choice with which a method of a name begins, which may end it.
+    #[inline(always)]
+    pub(crate) fn base_case(&self, name: Sym) -> Option<&BaseCase>
+        ensures { IfSome result (λ b. IsBase self.now.program.nodes.items b.now) }
+    {
+        match self.bases.get(name.0 as usize) {
+            Some(Some(base)) => Some(base),
+            _ => None,
+        }
+    }
+
     /// The links of a chain, where they lie there.
     #[inline(always)]
     pub(crate) fn links(&self, chain: Chain) -> Option<&[Link]>
         ensures { IfSome result (λ links. links.now ≡ links_of self.now.simple.links.items chain) }
     {
-        let from = chain.from as usize;
-        match self.simple.links.get(from..from + chain.count as usize) {
-            Some(links) => Some(links),
-            None => None,
-        }
+        links_in(&self.simple.links, chain)
     }
 
     /// The symbol of the method by which values are asked, without which the program defines none.

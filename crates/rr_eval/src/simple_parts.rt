@@ -13,6 +13,7 @@ use crate::constant::own_class;
 use crate::nodes::{evaluated_node, node_at};
 use crate::plain_methods::PlainMethod;
 use crate::prepared::Work;
+use crate::short_calls::{Given, short_call};
 use rr_base::{BuiltInClass, Sym};
 use rr_space::Ref;
 use rr_tree::{BinaryOperator, Node, NodeId, Path, Program};
@@ -48,6 +49,8 @@ pub enum ApartPart {
     Field(Sym),
     /// A call without arguments of what a variable holds.
     Attribute(Variable, Sym),
+    /// A call on `self` that is a chain, where the method with the statements at a place runs and as many arguments are given as it takes.
+    Call(Chain, NodeId),
     /// A global variable.
     Global(Sym),
     /// A constant that is no class of the program, and the built-in class of its name.
@@ -228,8 +231,40 @@ fn item_part(program: &Program, parts: &Vec<SimplePart>, place: NodeId) -> Optio
     }
 }
 
+/// The chain that the part at a place is, where it is one: operators, or a call. Its links are put behind the others.
+fn chain_part(
+    alloc: Global,
+    program: &Program,
+    plain: &Vec<PlainMethod>,
+    parts: &Vec<SimplePart>,
+    links: &mut Vec<Link>,
+    place: NodeId,
+) -> Result<Option<ApartPart>, AllocError>
+    requires { AreSimple program.now links.old.items parts.now.items }
+    ensures chain { IfOk result (λ found. IfSome found (IsApart program.now links.new.items (tree_at program.now.nodes.items place))) }
+    ensures parts { OnOk result (AreSimple program.now links.new.items parts.now.items) }
+{
+    match evaluated_node(program, place) {
+        Node::Binary(op, a, b) => match chain_behind(program, parts, links, op, a, b)? {
+            Some(chain) => Ok(Some(ApartPart::Chain(chain))),
+            None => Ok(None),
+        },
+        Node::Call {
+            name,
+            first,
+            count,
+            ..
+        } => {
+            let given = Given { first, count };
+            short_call(alloc, program, plain, parts, links, name, given)
+        }
+        _ => Ok(None),
+    }
+}
+
 /// What the part at a place is, or is taken for, behind those before it. Links of a chain that ends with it are put behind the others.
 fn part_behind(
+    alloc: Global,
     program: &Program,
     plain: &Vec<PlainMethod>,
     parts: &Vec<SimplePart>,
@@ -245,10 +280,9 @@ fn part_behind(
     }
     let part = part_at(program, plain, place);
     if let SimplePart::Other = part
-        && let Node::Binary(op, a, b) = evaluated_node(program, place)
-        && let Some(chain) = chain_behind(program, parts, links, op, a, b)?
+        && let Some(chain) = chain_part(alloc, program, plain, parts, links, place)?
     {
-        return Ok(SimplePart::Apart(ApartPart::Chain(chain)));
+        return Ok(SimplePart::Apart(chain));
     }
     Ok(part)
 }
@@ -267,7 +301,7 @@ pub fn simple_parts(
         let Ok(place) = u32::try_from(number) else {
             return Ok(SimpleParts { parts, links });
         };
-        let part = part_behind(program, plain, &parts, &mut links, place)?;
+        let part = part_behind(alloc, program, plain, &parts, &mut links, place)?;
         parts.push(part)?;
     }
     Ok(SimpleParts { parts, links })

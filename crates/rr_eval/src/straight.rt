@@ -28,7 +28,8 @@ pub struct Straight {
 /// The loops of a program that have such statements alone.
 #[derive(Drop)]
 pub struct StraightLoops {
-    /// Where the statements of a loop begin among those of all, by the places of the program, up to that of the last such loop.
+    /// Where the statements of a loop begin among those of all, by the places of the program, up to that of the last such loop; any number
+    /// for a block whose statements need no frame.
     pub starts: Vec<Option<u32>>,
     /// The statements, those of one loop side by side.
     pub statements: Vec<Straight>,

@@ -38,7 +38,7 @@ impl Engine {
 
     /// The value of an integer, of a variable that has one, or of an operator on two of them.
     #[inline(always)]
-    fn operand_unframed(
+    pub fn operand_unframed(
         &self,
         prepared: &Prepared,
         values: &[Ref],

@@ -6,6 +6,7 @@ ghost use Rattle.rr_space.specs.Tables.{Table, Below};
 ghost use Rattle.rr_tree.specs.Nodes.{trees_before};
 ghost use Rattle.rr_tree.specs.Tree.{tree_at};
 ghost use Rattle.rr_eval.specs.declared.call.Callee.{Callee};
+ghost use Rattle.rr_eval.specs.declared.prepared.Work.{Work as Kept};
 ghost use Rattle.rr_eval.specs.declared.problem.Answer.{Answer};
 ghost use Rattle.rr_eval.specs.Blocks.{running, called};
 ghost use Rattle.rr_eval.specs.Dispatch.{run_method, way_of};
@@ -22,11 +23,28 @@ ghost use Rattle.rr_eval.specs.Within.{Reach, reach, IsReached, AreReached};
 
 use crate::call_stack::Variable;
 use crate::engine::Engine;
-use crate::prepared::{Definition, Prepared, Work};
+use crate::prepared::{Body, Definition, Prepared, Work};
+use crate::simple_parts::{ApartPart, SimplePart};
 use crate::usual::{Quick, operated};
 use rr_frames::Given;
 use rr_space::{Ref, Space};
 use rr_tree::{Node, NodeId};
+
+/// The statements that a call of a method with so many arguments runs, where it has as many parameters.
+#[inline(always)]
+pub fn statements_for(definition: &Definition, count: usize) -> Option<Body>
+    ensures runs { IfSome result (λ body. definition.now.work ≡ Kept.Run body) }
+    ensures many { IfSome result (λ body. body.shape.parameters ≡ count) }
+    ensures fit { IfSome result (λ body. body.shape.parameters ≤ body.shape.size) }
+{
+    let Work::Run(body) = definition.work else {
+        return None;
+    };
+    if body.shape.parameters as usize != count || body.shape.size < body.shape.parameters {
+        return None;
+    }
+    Some(body)
+}
 
 impl Engine {
     /// The steps of up to four parts, the arguments of a call, where none of them needs a frame or a function of its own. Their values are
@@ -68,17 +86,10 @@ impl Engine {
         ensures few { IfSome result (λ q. q.steps ≤ 131) }
         ensures within { (k : Reach) → IfSome result (λ q. IsReached k q.value) }
     {
-        let Work::Run(body) = definition.work else {
-            return None;
-        };
+        let body = statements_for(definition, values.len())?;
         let Some(&Node::Sequence { first, count }) = prepared.node(body.node) else {
             return None;
         };
-        if body.shape.parameters as usize != values.len()
-            || body.shape.size < body.shape.parameters
-        {
-            return None;
-        }
         let home = self.calls.next_number()?;
         let found = self.result_unframed(prepared, values, home, first, count)?;
         Some(Quick {
@@ -120,18 +131,33 @@ impl Engine {
         })
     }
 
+    /// The value of such a call, which may be a chain.
+    #[inline(always)]
+    fn called(&self, prepared: &Prepared, space: &Space, place: NodeId) -> Option<Quick>
+        ensures takes { IfSome result (λ q. TakesNow prepared.now.program (view_of self.now) space.now (tree_at prepared.now.program.nodes.items place) q.steps q.value) }
+        ensures few { IfSome result (λ q. q.steps ≤ 144) }
+        ensures within { (k : Reach) → AreReached k (view_of self.now) → IfSome result (λ q. IsReached k q.value) }
+    {
+        match prepared.part(place) {
+            Some(&SimplePart::Apart(ApartPart::Call(_, _))) => {
+                self.short_call(prepared, space, place)
+            }
+            _ => self.call_unframed(prepared, space, place),
+        }
+    }
+
     /// The value of such a call, or of an operator on one and a part that needs no frame and no function of its own. It is called, and not
     /// compiled in place, for the registers of the statements around it.
     #[inline(never)]
     fn called_value(&self, prepared: &Prepared, space: &Space, place: NodeId) -> Option<Quick>
         ensures takes { IfSome result (λ q. TakesNow prepared.now.program (view_of self.now) space.now (tree_at prepared.now.program.nodes.items place) q.steps q.value) }
         ensures few { IfSome result (λ q. q.steps ≤ 148) }
-        ensures within { (k : Reach) → IfSome result (λ q. IsReached k q.value) }
+        ensures within { (k : Reach) → AreReached k (view_of self.now) → IfSome result (λ q. IsReached k q.value) }
     {
         let Some(&Node::Binary(op, left, right)) = prepared.node(place) else {
-            return self.call_unframed(prepared, space, place);
+            return self.called(prepared, space, place);
         };
-        let called = self.call_unframed(prepared, space, left)?;
+        let called = self.called(prepared, space, left)?;
         let other = self.quick_simple(prepared, right)?;
         Some(Quick {
             value: operated(op, called.value, other.value)?,

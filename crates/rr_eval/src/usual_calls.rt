@@ -242,8 +242,19 @@ impl Engine {
         if count == 1
             && let Some(found) = self.quick_before(prepared, space, first, stop)
         {
+            let base = prepared.base_case(name);
+            if let Some(base) = base
+                && self.call_early(
+                    prepared, space, here, name, first, definition, base, found, stop,
+                )
+            {
+                return true;
+            }
             if self.call_one(prepared, space, here, name, first, *definition, found, stop) {
-                self.enter_statements(prepared, stop);
+                match base {
+                    Some(base) => self.enter_behind(prepared, base, stop),
+                    None => self.enter_statements(prepared, stop),
+                }
                 return true;
             }
             return false;

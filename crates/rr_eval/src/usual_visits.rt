@@ -268,7 +268,7 @@ impl Engine {
 
     /// Evaluates statements.
     #[inline(always)]
-    fn visit_statements(
+    pub fn visit_statements(
         &mut self,
         program: &Program,
         here: NodeId,

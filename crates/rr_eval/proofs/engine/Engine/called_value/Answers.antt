@@ -22,4 +22,4 @@ returns-clause-takes c =
     (operation_takes p m t node.op (tree_at ns node.left) (tree_at ns node.right) called.steps other.steps called.value other.value total c.in_ok-called.ensures.takes (c.in_ok-other.ensures.takes t) c.in_ok-operated.ensures.gives)
 
 pub returns-clause-within : goal.returns-clause-within
-returns-clause-within c = c.in_ok-operated.ensures.within
+returns-clause-within c k h = c.in_ok-operated.ensures.within k

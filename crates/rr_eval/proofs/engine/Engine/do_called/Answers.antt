@@ -32,4 +32,4 @@ unfolding AreReached
 returns-clause-within c k h =
     let m = view_of c.args.self.now in
     let node = c.in-Some-Assign in
-    with_variable k m c.write.new.self (named node.depth node.slot) c.in_ok-found.found.value m.control c.write.ensures.frames h (c.in_ok-found.ensures.within k) h.control
+    with_variable k m c.write.new.self (named node.depth node.slot) c.in_ok-found.found.value m.control c.write.ensures.frames h (c.in_ok-found.ensures.within k h) h.control

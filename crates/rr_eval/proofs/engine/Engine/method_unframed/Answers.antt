@@ -1,5 +1,5 @@
 -- The statements give the value in the frame that the method would have.
-use Rattle.std.proofs.Common.{◌≡◌, ◌+◌, ◌≤◌, ◌∙◌, None, ap, arith, refl, sym, length}
+use Rattle.std.proofs.Common.{◌+◌, ◌∙◌, None, ap, refl, sym}
 use Rattle.rr_tree.specs.Tree.{tree_at}
 use Rattle.rr_eval.specs.declared.call.Callee.TheVariants.{Name}
 use Rattle.rr_eval.specs.declared.call_stack.Entry.TheVariants.{OfMethod}
@@ -24,19 +24,17 @@ returns-clause-comes c = λ name t h i.
     let m = view_of c.args.self.now in
     let vs = c.args.values.now in
     let class = c.args.definition.now.class in
-    let body = c.in-Run.body in
+    let body = c.in_ok-body.body in
     let list = c.in-Some-Sequence in
     let found = c.in_ok-found.found in
     let way = way_of (Name name) None (running m.calls.frames).itself vs in
     let method = method_of ns body in
     let call = invocation way class method in
-    let many = c.if-body-values.false in
-    let fits = c.if-body.false in
-    let count : length vs ≡ body.shape.parameters = omega (arith, many) in
-    let fit : body.shape.parameters ≤ body.shape.size = omega (arith, fits) in
+    let count = sym c.in_ok-body.ensures.many in
+    let fit = c.in_ok-body.ensures.fit in
     let lies = lies_called (OfMethod call) body.shape.parameters body.shape.size c.in_ok-home.home vs m.calls.frames count fit (sym c.in_ok-home.ensures.number) in
     let at = list.ensures.tree ∙ ap (evaluated_tree ns) list.field-0-is in
-    ap (λ w. runs_in (code_of p h.world) (run_work own class (work_in ns w) way vs) (state_of p m t h) (found.steps + 1 + i)) c.in-Run.is
+    ap (λ w. runs_in (code_of p h.world) (run_work own class (work_in ns w) way vs) (state_of p m t h) (found.steps + 1 + i)) c.in_ok-body.ensures.runs
     ∙ ap (λ x. runs_in (code_of p h.world) x (state_of p m t h) (found.steps + 1 + i)) (sym (as_many own method.parameters vs (See (λ k. entered own way class method vs k.calls)) count))
     ∙ method_gives p m t call method.parameters method.size c.in_ok-home.home (found.steps + 1) vs method.body found.value refl c.in_ok-home.ensures.room lies
     (λ f u lie. sequence_sets p (framed_with f m) (framed_with f m) u found.steps (list.first + list.count) list.count (tree_at ns body.node) found.value at (c.in_ok-found.ensures.takes f u lie)) h i

@@ -1,0 +1,34 @@
+-- A part is what it is taken for.
+use Rattle.std.proofs.Common.{◌≡◌, ◌∙◌, ◌<◌, Some, ap, arith, length, slice_get, subst, sym}
+use Rattle.std.proofs.lemmas.Bool.Decides.{nat_tests}
+use Rattle.std.proofs.lemmas.Option.{slice_get-get_or}
+use Rattle.rr_tree.specs.Tree.{tree_at}
+use Rattle.rr_eval.specs.SimpleParts.{IsSimple}
+use Rattle.rr_eval.proofs.Becoming.{integer_leaf, variable_leaf}
+use Rattle.rr_eval.proofs.short_calls.is_leaf.Goals as goal
+
+pub returns-in-Some-Variable : goal.returns-in-Some-Variable
+returns-in-Some-Variable c = λ _ links simple.
+    let p = c.args.program.now in
+    let x = c.args.place in
+    let part = c.in-Some-Variable in
+    let found = part.field-0.now in
+    let all = c.deref.result.now in
+    let test = part.ensures.lookup.0 in
+    let inside : x < length all = grind (arith, nat_tests) in
+    let at : slice_get all x ≡ Some found = slice_get-get_or all x found inside ∙ ap Some (sym part.ensures.lookup.1) in
+    let there : slice_get c.args.parts.now.items x ≡ Some found = ap (λ l. slice_get l x) (sym c.deref.ensures.value) ∙ at in
+    variable_leaf (tree_at p.nodes.items x) part.field-0-0 (subst (IsSimple p links (tree_at p.nodes.items x)) part.field-0-is (simple x found there))
+
+pub returns-in-Some-Int : goal.returns-in-Some-Int
+returns-in-Some-Int c = λ _ links simple.
+    let p = c.args.program.now in
+    let x = c.args.place in
+    let part = c.in-Some-Int in
+    let found = part.field-0.now in
+    let all = c.deref.result.now in
+    let test = part.ensures.lookup.0 in
+    let inside : x < length all = grind (arith, nat_tests) in
+    let at : slice_get all x ≡ Some found = slice_get-get_or all x found inside ∙ ap Some (sym part.ensures.lookup.1) in
+    let there : slice_get c.args.parts.now.items x ≡ Some found = ap (λ l. slice_get l x) (sym c.deref.ensures.value) ∙ at in
+    integer_leaf (tree_at p.nodes.items x) part.field-0-0 (subst (IsSimple p links (tree_at p.nodes.items x)) part.field-0-is (simple x found there))
