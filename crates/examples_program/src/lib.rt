@@ -78,6 +78,8 @@ mod several;
 #[cfg(test)]
 mod sharing;
 #[cfg(test)]
+mod short_calls;
+#[cfg(test)]
 mod speaking;
 #[cfg(test)]
 mod splats;
