@@ -248,11 +248,24 @@ class Script
     "#{counter} = 0; #{pick("while #{counter} <", "until #{counter} >=")} #{1 + any(6)}; #{round.join('; ')}; end; p(#{pick(*NAMES)})"
   end
 
-  # Two short methods, and one that gives its block integers: what calls them needs no frames as long as the values are integers.
+  # Short methods, one that gives its block integers, and one that calls itself: what calls them needs no frames as long as the values are
+  # integers.
   def short_methods
     early, earlier = Array.new(2) { likely?(0.4) ? "return #{pick('x', any(4))} if x #{pick('<', '>', '==')} #{any(4)}; " : "" }
     ["def s0(x); i = 0; while i < x; i += 1; yield i; end; i; end", "def s1(x); #{early}x #{pick('+', '-', '*', '/', '<')} #{any(4)}; end",
-     "def s2(x, y); #{earlier}x #{pick('+', '-')} y #{pick('+', '*', '%')} #{pick('x', any(4))}; end"]
+     "def s2(x, y); #{earlier}x #{pick('+', '-')} y #{pick('+', '*', '%')} #{pick('x', any(4))}; end", calling_itself,
+     "def s4(x, y); #{pick('x', 'y')} #{pick('+', '-')} #{pick('x', 'y')} #{pick('*', '-', '%')} #{any(3)} #{pick('+', '-', '<')} y; end"]
+  end
+
+  # A method that calls itself until its first statement ends it.
+  def calling_itself
+    value = pick("x", "x", any(4), "nil", ":k", "x * 2", "[x]")
+    if likely?(0.3)
+      "def s3(x); x < #{any(4)} ? #{value} : s3(x > 60 ? 0 : x - 1) #{pick('+', '-', '*')} #{pick('x', any(4))}; end"
+    else
+      ends = pick("return #{value} if x < #{any(4)}", "return #{value} unless x > #{any(4)}", "if x < #{any(4)}; return #{value}; end")
+      "def s3(x); #{ends}; return 0 if x > 18; s3(x - 1) #{pick('+', '-', '*')} #{pick('x', 's3(x - 2)', any(4))}; end"
+    end
   end
 
   # Turns of a block that only assigns to a variable outside of it, behind what may end them.
@@ -266,7 +279,7 @@ class Script
     left, right, last = Array.new(3) { likely?(0.8) ? pick(*NAMES, any(9)) : atom }
     first, second = Array.new(2) { pick('+', '-', '/', '%', '<', '==') }
     set = pick("= #{left}", "= #{left} #{first} #{right}", "= #{left} #{first} #{right} #{second} #{last}", "#{pick('+', '-', '%')}= #{left}",
-               "= s1(#{left})", "= s2(#{left}, #{right}) #{first} #{last}")
+               "= s1(#{left})", "= s2(#{left}, #{right}) #{first} #{last}", "= s3(#{left})", "= s4(#{left}, #{right})")
     likely?(0.3) ? "begin; #{pick(*NAMES)} #{set}; rescue#{pick('', ' TypeError')} => e; p e.class; end" : "#{pick(*NAMES)} #{set}"
   end
 
