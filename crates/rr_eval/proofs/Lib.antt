@@ -14,6 +14,7 @@ pub mod Unknown
 pub mod Unwind
 pub mod Frameless
 pub mod Bases
+pub mod Breaks
 pub mod BaseCases
 pub mod Filled
 pub mod Becoming

@@ -6,7 +6,7 @@ use Rattle.rr_space.specs.declared.refer.Ref.{Ref}
 use Rattle.rr_tree.specs.Tree.{Tree}
 use Rattle.rr_tree.specs.declared.program.Program.{Program}
 use Rattle.rr_eval.specs.declared.problem.Answer.{Answer}
-use Rattle.rr_eval.specs.declared.problem.Answer.TheVariants.{Gave, Returned}
+use Rattle.rr_eval.specs.declared.problem.Answer.TheVariants.{Gave, Broke, Returned}
 use Rattle.rr_eval.specs.Blocks.{is_outside}
 use Rattle.rr_eval.specs.Frames.{means}
 use Rattle.rr_eval.specs.Requests.{Course}
@@ -28,3 +28,7 @@ EndsNow p m t tree steps answer = (h : Course) (n : ℕ) → means (code_of p h.
 abbrev pub EndsInside : Program → View → List Ref → ℕ → Tree → ℕ → Answer → Type 0
 EndsInside p m values home tree steps answer =
     (f : Activated) (t : Table) → LiesIn values home f → is_outside (m.calls.frames ++ f ∷ []) ≡ false → EndsNow p (framed_with f m) t tree steps answer
+
+-- a tree takes so many steps in any frame that has these values and lies there, leaves all as it is, and is a `break` with this value
+abbrev pub BreaksInside : Program → View → List Ref → ℕ → Tree → ℕ → Ref → Type 0
+BreaksInside p m values home tree steps v = (f : Activated) (t : Table) → LiesIn values home f → EndsNow p (framed_with f m) t tree steps (Broke v)

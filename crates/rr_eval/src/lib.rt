@@ -87,6 +87,7 @@ mod straight_statements;
 mod throw;
 mod unframed;
 mod unframed_bases;
+mod unframed_breaks;
 mod unframed_calls;
 mod unframed_chains;
 mod unframed_turns;

@@ -16,7 +16,7 @@ ghost use Rattle.rr_frames.specs.declared.activation.Shape.{Shape};
 ghost use Rattle.rr_eval.specs.declared.problem.Answer.{Answer};
 ghost use Rattle.rr_eval.specs.Blocks.{shape_in, opened};
 ghost use Rattle.rr_eval.specs.Frames.{iterated, Nested};
-ghost use Rattle.rr_eval.specs.Iterating.{ahead, kept, takes_array, turn_of, continued, continued_with};
+ghost use Rattle.rr_eval.specs.Iterating.{ahead, kept, stand_of_first, takes_array, turn_of, continued, continued_with};
 ghost use Rattle.rr_eval.specs.Requests.{Course};
 ghost use Rattle.rr_eval.specs.Script.{Ret, Evaluate, TurnPart};
 ghost use Rattle.rr_eval.specs.Turns.{context_of, code_of, state_of, remaining, remaining_with, IsNested, after_values, size};
@@ -57,6 +57,7 @@ fn keeps(iteration: Iteration) -> bool
 pub fn ahead_often(space: &Space, visits: Visits, stand: &[Ref]) -> Option<Ahead>
     ensures is { IfSome result (λ a. a ≡ ahead visits stand.now space.now) }
     ensures keeps { IfSome result (λ _. (v : Ref) → kept visits v stand.now space.now ≡ Ok None) }
+    ensures first { IfSome result (λ _. (vs : List Ref) (t : Table) → stand_of_first visits vs t ≡ Some vs) }
     ensures apart { IfSome result (λ a. (first last : Option Ref) (more : Visits) (shape : Option Shape) → a ≡ Ahead.Another first last more → takes_array more shape ≡ Bool.false) }
     ensures within { (clusters : Option Below) → All (IsReached (reach (length space.now.slots) clusters)) stand.now → IfSome result (IsAheadReached (reach (length space.now.slots) clusters)) }
 {
@@ -304,6 +305,75 @@ impl Engine {
         }
     }
 
+    /// Goes on behind a turn of an iteration that had a value, and whose frame is gone, in a frame again: it answers whether another turn
+    /// began. Where none did, the iteration waits behind its turn.
+    #[tactic(auto, unfolding(crate::specs::Within::AreReached))]
+    #[inline(always)]
+    fn begin_or_wait(
+        &mut self,
+        prepared: &Prepared,
+        space: &Space,
+        iteration: Iterating,
+        value: Ref,
+        stop: u64,
+    ) -> bool
+        requires room { length self.old.frames.items < vec_capacity self.old.frames }
+        requires base { iteration.base ≤ length self.old.held.items }
+        requires nested { Nested (reverse self.old.frames.items) (take iteration.base self.old.held.items) }
+        requires left { stop ≤ self.old.left }
+        ensures goes { (h : Course) → after_values prepared.now.program (view_of self.old) space.now (Frame.Turned iteration) (continued_with (context_of prepared.now.program) (iterated (code_of prepared.now.program h.world) iteration (drop iteration.base self.old.held.items)) value) h self.old.left ≡ remaining prepared.now.program (view_of self.new) space.now h }
+        ensures nested { IsNested (view_of self.new) }
+        ensures within { (clusters : Option Below) → AreReached (reach (length space.now.slots) clusters) (view_of self.old) → IsReached (reach (length space.now.slots) clusters) value → AreReached (reach (length space.now.slots) clusters) (view_of self.new) }
+        ensures left { stop ≤ self.new.left }
+        ensures kept { self.new.left ≤ self.old.left }
+        ensures size { size (view_of self.new) ≤ 3 * length self.old.frames.items + 5 }
+        ensures falls { IsTrue result → size (view_of self.new) ≤ 3 * length self.old.frames.items + 4 }
+    {
+        let program = &prepared.program;
+        if self.begin_next(program, space, iteration, value) {
+            self.enter_body(program, stop);
+            return true;
+        }
+        push_within(&mut self.frames, Frame::Turned(iteration));
+        self.control = Control::Give(Answer::Gave(value));
+        false
+    }
+
+    /// Goes on behind a turn of an iteration that had a value, and whose frame is gone: it answers whether another turn began, or a `break`
+    /// ended the iteration. Where neither did, the iteration waits behind its turn.
+    #[tactic(auto, unfolding(crate::specs::Within::AreReached))]
+    #[inline(always)]
+    pub fn go_on_often(
+        &mut self,
+        prepared: &Prepared,
+        space: &Space,
+        iteration: Iterating,
+        value: Ref,
+        stop: u64,
+    ) -> bool
+        requires room { length self.old.frames.items < vec_capacity self.old.frames }
+        requires base { iteration.base ≤ length self.old.held.items }
+        requires nested { Nested (reverse self.old.frames.items) (take iteration.base self.old.held.items) }
+        requires left { stop ≤ self.old.left }
+        ensures goes { (h : Course) → after_values prepared.now.program (view_of self.old) space.now (Frame.Turned iteration) (continued_with (context_of prepared.now.program) (iterated (code_of prepared.now.program h.world) iteration (drop iteration.base self.old.held.items)) value) h self.old.left ≡ remaining prepared.now.program (view_of self.new) space.now h }
+        ensures nested { IsNested (view_of self.new) }
+        ensures within { (clusters : Option Below) → AreReached (reach (length space.now.slots) clusters) (view_of self.old) → IsReached (reach (length space.now.slots) clusters) value → AreReached (reach (length space.now.slots) clusters) (view_of self.new) }
+        ensures left { stop ≤ self.new.left }
+        ensures kept { self.new.left ≤ self.old.left }
+        ensures size { size (view_of self.new) ≤ 3 * length self.old.frames.items + 5 }
+        ensures falls { IsTrue result → size (view_of self.new) ≤ 3 * length self.old.frames.items + 4 }
+    {
+        let done = self.try_turns(prepared, space, iteration, value, stop);
+        let next = Iterating {
+            visits: done.visits,
+            ..iteration
+        };
+        if self.break_often(prepared, space, next, done.value, stop) {
+            return true;
+        }
+        self.begin_or_wait(prepared, space, next, done.value, stop)
+    }
+
     /// Goes on behind a turn of an iteration, whose frame goes: it answers whether another turn began. Where none did, the iteration
     /// waits behind its turn.
     #[tactic(auto, unfolding(crate::specs::Within::AreReached))]
@@ -330,19 +400,7 @@ impl Engine {
     {
         self.take_top(Frame::Round(iteration), Answer::Gave(value));
         self.pop_call();
-        let done = self.try_turns(prepared, space, iteration, value, stop);
-        let next = Iterating {
-            visits: done.visits,
-            ..iteration
-        };
-        let program = &prepared.program;
-        if self.begin_next(program, space, next, done.value) {
-            self.enter_body(program, stop);
-            return true;
-        }
-        push_within(&mut self.frames, Frame::Turned(next));
-        self.control = Control::Give(Answer::Gave(done.value));
-        false
+        self.go_on_often(prepared, space, iteration, value, stop)
     }
 
     /// The same of an iteration over an array that may keep a value of its turn.

@@ -15,8 +15,8 @@ visit_rare-requires-clause-rare c = subst IsRareNode (sym c.requires.node) tt
 pub visit_rare-requires-clause-evaluated : goal.visit_rare-requires-clause-evaluated
 visit_rare-requires-clause-evaluated c = subst IsEvaluated (sym c.requires.node) tt
 
-pub call_with_block-requires-clause-comes : goal.call_with_block-requires-clause-comes
-call_with_block-requires-clause-comes c = λ h n.
+pub begin_with_block-requires-clause-comes : goal.begin_with_block-requires-clause-comes
+begin_with_block-requires-clause-comes c = λ h n.
     let p = c.args.prepared.now.program in
     let ns = p.nodes.items in
     let m = view_of c.args.self.now in
