@@ -271,8 +271,9 @@ class Script
   # Turns of a block that only assigns to a variable outside of it, behind what may end them.
   def assigning_turns
     turns = pick("#{any(5)}.times", "#{any(3)}.upto(4)", "[1, 2, 3].each", "[4, nil, 5].each", "s0(#{any(5)})")
-    ends = likely?(0.4) ? "#{pick('break', 'next')} if x #{pick('<', '>', '==')} #{any(4)}; " : ""
-    "#{turns} { |x| #{ends}#{pick(*NAMES)} #{pick("= #{pick(*NAMES)} #{pick('+', '-', '*')} x", "#{pick('+', '-')}= x", '= x')} }; p(#{pick(*NAMES)})"
+    leaves = pick("break", "next", "break x", "break #{pick(*NAMES)}", "break #{any(9)}", "break x * 2")
+    ends = likely?(0.5) ? "#{leaves} #{pick('if', 'unless')} x #{pick('<', '>', '==')} #{any(4)}; " : ""
+    "#{pick('', '', 'p ')}#{turns} { |x| #{ends}#{pick(*NAMES)} #{pick("= #{pick(*NAMES)} #{pick('+', '-', '*')} x", "#{pick('+', '-')}= x", '= x')} }; p(#{pick(*NAMES)})"
   end
 
   def assignment

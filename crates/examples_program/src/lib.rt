@@ -92,6 +92,8 @@ mod table;
 #[cfg(test)]
 mod targets;
 #[cfg(test)]
+mod turn_breaks;
+#[cfg(test)]
 mod unframed;
 #[cfg(test)]
 mod updating;

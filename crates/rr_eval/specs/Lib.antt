@@ -21,6 +21,7 @@ pub mod Calls
 pub mod RactorMethods
 pub mod Sharing
 pub mod Tasks
+pub mod Apart
 pub mod Awaited
 pub mod SimpleParts
 pub mod Prepared

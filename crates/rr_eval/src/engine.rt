@@ -11,6 +11,7 @@ ghost use Rattle.rr_tree.specs.declared.node.Node.{Node};
 ghost use Rattle.rr_tree.specs.declared.program.Program.{Program};
 ghost use Rattle.rr_tree.specs.Tree.{tree_at, binary};
 ghost use Rattle.rr_eval.specs.Acts.{Passes};
+ghost use Rattle.rr_eval.specs.Apart.{turned_of};
 ghost use Rattle.rr_eval.specs.Script.{Ended, objects_of};
 ghost use Rattle.rr_eval.specs.Requests.{Course, Adds};
 ghost use Rattle.rr_eval.specs.Changes.{Changes};
@@ -23,6 +24,7 @@ ghost use Rattle.rr_eval.specs.Within.{Reach, reach, IsReached, IsAnswerReached,
 ghost use Rattle.std.specs.List.{All};
 
 use crate::call_stack::{CallStack, Variable};
+use crate::fields::FieldAssignment;
 use crate::frame::{Control, Frame};
 use crate::nodes::node_at;
 use crate::prepared::Prepared;
@@ -64,6 +66,15 @@ pub enum Turn {
     Raised(Ref),
     /// No step is left.
     StepLimit,
+}
+
+/// How a turn stopped.
+#[derive(Drop)]
+pub enum TurnedApart {
+    /// It asks for an assignment to an instance variable.
+    Assigns(FieldAssignment),
+    /// In any way, or a growth was refused.
+    Other(Result<Turn, Fault>),
 }
 
 /// How a turn stops where all ends with an answer.
@@ -301,8 +312,46 @@ impl Engine {
         Ok(())
     }
 
-    /// At most `budget` steps. A refused growth leaves what is still to be done as it is, and the next turn goes on there.
+    /// At most `budget` steps: an assignment to an instance variable whose value needs no frame is told apart from all else that stops a
+    /// turn. A refused growth leaves what is still to be done as it is, and the next turn goes on there.
     #[tactic(auto, using(crate::proofs::Changing::changes_trans, crate::proofs::Changing::changes_none))]
+    #[inline(always)]
+    pub fn turn_apart(&mut self, prepared: &Prepared, space: &mut Space, budget: u32) -> TurnedApart
+        requires nested { IsNested (view_of self.old) }
+        requires within { AreWithin (length space.old.slots) (view_of self.old) }
+        ensures nested { IsNested (view_of self.new) }
+        ensures within { KeepsReach (view_of self.old) space.old (view_of self.new) space.new }
+        ensures read { KeepsRead (view_of self.old) space.old space.new }
+        ensures ends_within { (clusters : Option Below) → AreReached (reach (length space.old.slots) clusters) (view_of self.old) → IfOk (turned_of result) (IsTurnReached (reach (length space.new.slots) clusters)) }
+        ensures turned { Turned prepared.now.program (view_of self.old) space.old budget (turned_of result) (view_of self.new) space.new }
+        ensures falls { 0 < budget → Falls (view_of self.old) (turned_of result) (view_of self.new) }
+        ensures limit { space.new.limit ≡ space.old.limit }
+        ensures changed { Changes space.old space.new }
+        ensures full { IfErr (turned_of result) (λ f. (h : Course) → Adds h.world → Passes f space.old.limit (objects_of (remaining prepared.now.program (view_of self.old) space.old h))) }
+    {
+        let stop = self.left.saturating_sub(u64::from(budget));
+        loop {
+            self.act_usual(prepared, space, stop);
+            if let Some(assignment) = self.assignment_next(prepared, space, stop) {
+                return TurnedApart::Assigns(assignment);
+            }
+            if let Some(request) = self.ask_often(prepared, space, stop) {
+                return TurnedApart::Other(Ok(Turn::Ask(request)));
+            }
+            if self.may_ask(prepared)
+                && let Some(request) = self.ask_rarely(prepared, space, stop)
+            {
+                return TurnedApart::Other(Ok(Turn::Ask(request)));
+            }
+            match self.act_any(prepared, space, stop) {
+                Ok(None) => {}
+                Ok(Some(turn)) => return TurnedApart::Other(Ok(turn)),
+                Err(fault) => return TurnedApart::Other(Err(fault)),
+            }
+        }
+    }
+
+    /// At most `budget` steps. A refused growth leaves what is still to be done as it is, and the next turn goes on there.
     #[inline(always)]
     pub fn turn(
         &mut self,
@@ -322,20 +371,9 @@ impl Engine {
         ensures changed { Changes space.old space.new }
         ensures full { IfErr result (λ f. (h : Course) → Adds h.world → Passes f space.old.limit (objects_of (remaining prepared.now.program (view_of self.old) space.old h))) }
     {
-        let stop = self.left.saturating_sub(u64::from(budget));
-        loop {
-            self.act_usual(prepared, space, stop);
-            if let Some(request) = self.ask_often(prepared, space, stop) {
-                return Ok(Turn::Ask(request));
-            }
-            if self.may_ask(prepared)
-                && let Some(request) = self.ask_rarely(prepared, space, stop)
-            {
-                return Ok(Turn::Ask(request));
-            }
-            if let Some(turn) = self.act_any(prepared, space, stop)? {
-                return Ok(turn);
-            }
+        match self.turn_apart(prepared, space, budget) {
+            TurnedApart::Assigns(assignment) => Ok(Turn::Ask(assignment.request())),
+            TurnedApart::Other(turned) => turned,
         }
     }
 }

@@ -9,6 +9,7 @@ ghost use Rattle.rr_builtin.specs.Fields.{field_at, set_field};
 ghost use Rattle.rr_builtin.specs.Messages.{write_message};
 ghost use Rattle.rr_tree.specs.declared.program.Program.{Program};
 ghost use Rattle.rr_eval.specs.declared.problem.Problem.{Problem};
+ghost use Rattle.rr_eval.specs.Apart.{assignment_asked};
 ghost use Rattle.rr_eval.specs.Calls.{reply_with};
 ghost use Rattle.rr_eval.specs.Fields.{field_response, field_rule, set_field_rule};
 ghost use Rattle.rr_eval.specs.Published.{published};
@@ -112,6 +113,27 @@ pub fn give_message(space: &mut Space, store: &StoreState, values: &[Ref]) -> Re
     }
 }
 
+/// An assignment of a value to an instance variable of an object.
+#[derive(Clone, Copy)]
+pub struct FieldAssignment {
+    pub object: Ref,
+    pub name: Sym,
+    pub value: Ref,
+}
+
+impl FieldAssignment {
+    /// The request for it.
+    #[inline(always)]
+    pub fn request(self) -> Request
+        ensures { result ≡ assignment_asked self }
+    {
+        Request::Do(
+            Task::SetField(self.name),
+            Arguments::Two(self.object, self.value),
+        )
+    }
+}
+
 impl Engine {
     /// Evaluates an instance variable of `self`.
     #[tactic(auto, unfolding(crate::specs::Within::AreReached))]
@@ -126,6 +148,20 @@ impl Engine {
     {
         let held = read_field(space, self.itself(), name);
         self.settle(held);
+    }
+
+    /// An assignment of a value to an instance variable of `self`.
+    #[tactic(auto, unfolding(crate::specs::Within::AreReached))]
+    #[inline(always)]
+    pub fn field_assignment(&self, name: Sym, value: Ref) -> FieldAssignment
+        ensures asks { (p : Program) (t : Table) (h : Course) (n : ℕ) → after_script p (view_of self.now) t (set_field_rule (context_of p) name value) h n ≡ asking_with p (view_of self.now) t (asked_of t (assignment_asked result)) h n }
+        ensures within { (k : Reach) → AreReached k (view_of self.now) → IsReached k value → IsRequestReached k (assignment_asked result) }
+    {
+        FieldAssignment {
+            object: self.itself(),
+            name,
+            value,
+        }
     }
 
     /// Asks for an assignment of a value to an instance variable of `self`.

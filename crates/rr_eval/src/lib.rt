@@ -94,6 +94,7 @@ mod unframed_turns;
 mod update;
 mod updating;
 mod usual;
+mod usual_assignments;
 mod usual_attributes;
 mod usual_bases;
 mod usual_blocks;

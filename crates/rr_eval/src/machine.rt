@@ -8,6 +8,7 @@ ghost use Rattle.rr_space.specs.declared.refer.Ref.{Ref};
 ghost use Rattle.rr_tree.specs.declared.program.Program.{Program};
 ghost use Rattle.rr_tree.specs.Tree.{Tree, tree_at, listed};
 ghost use Rattle.rr_eval.specs.Acts.{Passes};
+ghost use Rattle.rr_eval.specs.Apart.{turned_of};
 ghost use Rattle.rr_eval.specs.Script.{State, World, Evaluation, Iterated, TurnPart, Go, run, Ended, Spent, objects_of};
 ghost use Rattle.rr_eval.specs.Rules.{Context, rule, throw, meaning, meaning_of, begun, block_begun, first_memory, items};
 ghost use Rattle.rr_eval.specs.Iterating.{body_in, turned};
@@ -22,7 +23,7 @@ ghost use Rattle.rr_eval.specs.Turns.{context_of, remaining, answered, Turned, R
 
 use crate::call::Target;
 use crate::call_stack::CallStack;
-use crate::engine::{Engine, Turn};
+use crate::engine::{Engine, Turn, TurnedApart};
 use crate::frame::{Control, Frame};
 use crate::prepared::Prepared;
 use crate::problem::{Problem, Response};
@@ -167,6 +168,25 @@ impl Machine {
         ensures full { IfErr result (λ f. (h : Course) → Adds h.world → Passes f space.old.limit (objects_of (remaining prepared.now.program self.old space.old h))) }
     {
         self.engine.turn(prepared, space, budget)
+    }
+
+    /// The same, where an assignment to an instance variable whose value needs no frame is told apart from all else that stops a turn.
+    #[inline(always)]
+    pub fn turn_apart(&mut self, prepared: &Prepared, space: &mut Space, budget: u32) -> TurnedApart
+        requires within { AreWithin (length space.old.slots) self.old }
+        ensures within { AreWithin (length space.new.slots) self.new }
+        ensures ends_within { IfOk (turned_of result) (IsTurnWithin (length space.new.slots)) }
+        // With the clusters that the space and the machine lead to, which are the same afterwards.
+        ensures reach { KeepsReach self.old space.old self.new space.new }
+        ensures ends_reach { (clusters : Option Below) → AreReached (reach (length space.old.slots) clusters) self.old → IfOk (turned_of result) (IsTurnReached (reach (length space.new.slots) clusters)) }
+        ensures read { KeepsRead self.old space.old space.new }
+        ensures turned { Turned prepared.now.program self.old space.old budget (turned_of result) self.new space.new }
+        ensures falls { 0 < budget → Falls self.old (turned_of result) self.new }
+        ensures limit { space.new.limit ≡ space.old.limit }
+        ensures changed { Changes space.old space.new }
+        ensures full { IfErr (turned_of result) (λ f. (h : Course) → Adds h.world → Passes f space.old.limit (objects_of (remaining prepared.now.program self.old space.old h))) }
+    {
+        self.engine.turn_apart(prepared, space, budget)
     }
 
     /// Goes on with what the environment replied to the request of the last turn. The environment may have changed the

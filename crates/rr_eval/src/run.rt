@@ -16,7 +16,7 @@ ghost use Rattle.rr_eval.specs.Script.{World};
 
 use crate::alone::{assigned_field, call_alone, own_call, serve_alone, set_alone};
 use crate::counted::Counted;
-use crate::engine::Turn;
+use crate::engine::{Turn, TurnedApart};
 use crate::exception::report;
 use crate::known::make_registry;
 use crate::machine::Machine;
@@ -132,11 +132,17 @@ fn run_machine<O: Output>(
     let methods = &prepared.methods;
     let mut store = StoreState::new(alloc, limits.events);
     loop {
-        let turned = machine.turn(prepared, space, turn);
+        let apart = machine.turn_apart(prepared, space, turn);
         objects_fit(space);
-        match turned {
-            Ok(Turn::More) => {}
-            Ok(Turn::Ask(request)) => {
+        match apart {
+            TurnedApart::Assigns(set) => {
+                match set_alone(space, &store, program, set.object, set.name, set.value) {
+                    Ok(response) => machine.answer(response),
+                    Err(fault) => return Outcome::Stopped(fault),
+                }
+            }
+            TurnedApart::Other(Ok(Turn::More)) => {}
+            TurnedApart::Other(Ok(Turn::Ask(request))) => {
                 if let Some((object, name, value)) = assigned_field(&request) {
                     match set_alone(space, &store, program, object, name, value) {
                         Ok(response) => machine.answer(response),
@@ -161,10 +167,12 @@ fn run_machine<O: Output>(
                     Err(fault) => return Outcome::Stopped(fault),
                 }
             }
-            Ok(Turn::Done(_)) => return Outcome::Done,
-            Ok(Turn::Raised(exception)) => return raised(alloc, program, space, exception),
-            Ok(Turn::StepLimit) => return Outcome::StepLimit,
-            Err(fault) => return Outcome::Stopped(fault),
+            TurnedApart::Other(Ok(Turn::Done(_))) => return Outcome::Done,
+            TurnedApart::Other(Ok(Turn::Raised(exception))) => {
+                return raised(alloc, program, space, exception);
+            }
+            TurnedApart::Other(Ok(Turn::StepLimit)) => return Outcome::StepLimit,
+            TurnedApart::Other(Err(fault)) => return Outcome::Stopped(fault),
         }
     }
 }

@@ -9,8 +9,8 @@ use Rattle.rr_eval.specs.Runs.{program_meaning}
 use Rattle.rr_eval.proofs.Running.{IsRunning}
 use Rattle.rr_eval.proofs.run.run_machine.Given as goal
 
-abbrev pub invariant-loop-request : goal.invariant-loop-request
-invariant-loop-request g l = record {
+abbrev pub invariant-loop-set : goal.invariant-loop-set
+invariant-loop-set g l = record {
   within : AreWithin (length l.space.slots) l.machine;
   reached : AreReached (reach (length l.space.slots) (Some (published l.store))) l.machine;
   read : IsReadWith l.space (published l.store);
@@ -18,5 +18,5 @@ invariant-loop-request g l = record {
   running : IsRunning l.fn.limits.events l.prepared.program l.machine l.space (program_meaning l.prepared.program l.fn.limits) (written_to g.O.Output.contents g.O.Output.failures l.initial.output) (written_to g.O.Output.contents g.O.Output.failures l.output) l.store;
 }
 
-abbrev pub decreases-loop-request : goal.decreases-loop-request
-decreases-loop-request g l = power l.machine
+abbrev pub decreases-loop-set : goal.decreases-loop-set
+decreases-loop-set g l = power l.machine

@@ -5,10 +5,10 @@ use Rattle.rr_eval.specs.Changes.{Changes}
 use Rattle.rr_eval.specs.Turns.{remaining, IsNested, power}
 use Rattle.rr_eval.specs.Within.{AreWithin, KeepsReach, KeepsRead}
 use Rattle.rr_eval.specs.Views.{view_of}
-use Rattle.rr_eval.proofs.engine.Engine.turn.Given as goal
+use Rattle.rr_eval.proofs.engine.Engine.turn_apart.Given as goal
 
-abbrev pub invariant-loop-request : goal.invariant-loop-request
-invariant-loop-request l = record {
+abbrev pub invariant-loop-assignment : goal.invariant-loop-assignment
+invariant-loop-assignment l = record {
   nested : IsNested (view_of l.self);
   refs : AreWithin (length l.space.slots) (view_of l.self);
   reaches : KeepsReach (view_of l.fn.self) l.fn.space (view_of l.self) l.space;
@@ -21,5 +21,5 @@ invariant-loop-request l = record {
   same : (h : Course) → remaining l.prepared.program (view_of l.fn.self) l.fn.space h ≡ remaining l.prepared.program (view_of l.self) l.space h;
 }
 
-abbrev pub decreases-loop-request : goal.decreases-loop-request
-decreases-loop-request l = power (view_of l.self)
+abbrev pub decreases-loop-assignment : goal.decreases-loop-assignment
+decreases-loop-assignment l = power (view_of l.self)
