@@ -1,9 +1,11 @@
 -- Methods and blocks that are done without their frame.
-use Rattle.std.specs.Prelude.{◌≡◌, ◌∷◌, ◌++◌, [], ℕ, List, Some, None, slice_get, length}
+use Rattle.std.specs.Prelude.{◌≡◌, ◌+◌, ◌∷◌, ◌++◌, [], ℕ, List, Some, None, slice_get, length}
 use Rattle.rr_frames.specs.Frames.{Frame as Activated, Stack}
 use Rattle.rr_space.specs.Tables.{Table}
 use Rattle.rr_space.specs.declared.refer.Ref.{Ref}
-use Rattle.rr_tree.specs.Tree.{Tree}
+use Rattle.rr_tree.specs.Nodes.{trees_before}
+use Rattle.rr_tree.specs.Tree.{Tree, block, sequence, listed, tree_at}
+use Rattle.rr_tree.specs.declared.node.Node.{Node}
 use Rattle.rr_tree.specs.declared.program.Program.{Program}
 use Rattle.rr_eval.specs.StraightRounds.{SetsNow, SetFirst}
 use Rattle.rr_eval.specs.Usual.{TakesNow}
@@ -30,6 +32,10 @@ SetsInside p m values home tree steps v n = (f : Activated) (t : Table) → Lies
 -- the first of some statements, all but these, do so
 abbrev pub SetFirstInside : Program → View → List Ref → ℕ → ℕ → ℕ → ℕ → ℕ → Ref → View → Type 0
 SetFirstInside p m values home end count rest steps v n = (f : Activated) (t : Table) → LiesIn values home f → SetFirst p (framed_with f m) t end count rest steps v (framed_with f n)
+
+-- a block stands at a place, and has these statements
+abbrev pub HasStatements : List Node → ℕ → ℕ → ℕ → Type 0
+HasStatements ns place first count = (x : ℕ) × (parameters : ℕ) × (size : ℕ) × (list : Tree) × (tree_at ns place ≡ block x parameters size list) × (list ≡ sequence (listed (trees_before ns (first + count) count)))
 
 -- there are as many frames as before, and there may be as many
 pub record AsMany (old new : Stack) : Type 0 where

@@ -408,7 +408,7 @@ impl Engine {
     /// Does some statements, all of them or none: the last one is a statement that needs no frame, and the others are choices that choose
     /// nothing.
     #[inline(always)]
-    fn body_unframed(
+    pub fn body_unframed(
         &mut self,
         prepared: &Prepared,
         values: &[Ref],
@@ -433,37 +433,6 @@ impl Engine {
         Some(Quick {
             value: done.value,
             steps: passed + done.steps,
-        })
-    }
-
-    /// Does a block, which stands at a place: all its statements or none.
-    #[inline(always)]
-    pub fn block_unframed(
-        &mut self,
-        prepared: &Prepared,
-        values: &[Ref],
-        home: u32,
-        place: NodeId,
-    ) -> Option<Quick>
-        ensures sets { IfSome result (λ q. SetsInside prepared.now.program (view_of self.old) values.now home (tree_at prepared.now.program.nodes.items place) q.steps q.value (view_of self.new)) }
-        ensures some { IfSome result (λ q. 0 < q.steps) }
-        ensures few { IfSome result (λ q. q.steps ≤ 168) }
-        ensures within { (k : Reach) → AreReached k (view_of self.old) → AreReached k (view_of self.new) }
-        ensures value { (k : Reach) → IfSome result (λ q. IsReached k q.value) }
-        ensures others { self.new ≡ record self.old { calls = self.new.calls } }
-        ensures many { AsMany self.old.calls self.new.calls }
-        ensures none { IfNone result (self.new ≡ self.old) }
-    {
-        let Some(&Node::Block { body, .. }) = prepared.node(place) else {
-            return None;
-        };
-        let Some(&Node::Sequence { first, count }) = prepared.node(body) else {
-            return None;
-        };
-        let done = self.body_unframed(prepared, values, home, first, count)?;
-        Some(Quick {
-            value: done.value,
-            steps: done.steps + 2,
         })
     }
 }

@@ -17,7 +17,7 @@ ghost use Rattle.rr_eval.specs.Within.{reach, AreReached, IsReached};
 
 use crate::engine::Engine;
 use crate::frame::{Frame, standing};
-use crate::iterating::{Ahead, Iterating, Visits};
+use crate::iterating::{Ahead, Iterating, Visits, value_at};
 use crate::prepared::Prepared;
 use crate::usual_rounds::ahead_often;
 use crate::value::is_object;
@@ -117,6 +117,40 @@ impl Engine {
         last
     }
 
+    /// The same. Those of `times` are compiled apart.
+    #[inline(always)]
+    fn run_visits(
+        &mut self,
+        prepared: &Prepared,
+        space: &Space,
+        iteration: Iterating,
+        value: Ref,
+        size: u32,
+        stop: u64,
+    ) -> DoneTurn
+        requires base { iteration.base ≤ length self.old.held.items }
+        requires shape { shape_in (Some (tree_at prepared.now.program.nodes.items iteration.block)) ≡ Some (record { parameters = 1; size = size }) }
+        requires size { 0 < size }
+        requires frames { nat_lt (length self.old.calls.frames) self.old.calls.limit ≡ true }
+        requires left { stop ≤ self.old.left }
+        ensures goes { (h : Course) → after_values prepared.now.program (view_of self.old) space.now (Frame.Turned iteration) (continued_with (context_of prepared.now.program) (iterated (code_of prepared.now.program h.world) iteration (drop iteration.base self.old.held.items)) value) h self.old.left ≡ after_values prepared.now.program (view_of self.new) space.now (Frame.Turned (record iteration { visits = result.visits })) (continued_with (context_of prepared.now.program) (iterated (code_of prepared.now.program h.world) (record iteration { visits = result.visits }) (drop iteration.base self.new.held.items)) result.value) h self.new.left }
+        ensures within { (clusters : Option Below) → AreReached (reach (length space.now.slots) clusters) (view_of self.old) → AreReached (reach (length space.now.slots) clusters) (view_of self.new) }
+        ensures value { (clusters : Option Below) → IsReached (reach (length space.now.slots) clusters) value → IsReached (reach (length space.now.slots) clusters) result.value }
+        ensures others { self.new ≡ record self.old { calls = self.new.calls; left = self.new.left } }
+        ensures left { stop ≤ self.new.left }
+        ensures kept { self.new.left ≤ self.old.left }
+    {
+        if let Visits::Times(here) = iteration.visits
+            && let Some(statements) = prepared.block_statements(iteration.block)
+        {
+            let bound = value_at(standing(&self.held, Frame::Turned(iteration)), 0);
+            return self.run_times(
+                prepared, iteration, here, bound, value, statements, size, stop,
+            );
+        }
+        self.run_turns(prepared, space, iteration, value, size, stop)
+    }
+
     /// The same, where turns may be done so at all. A turn that has an object is most likely followed by another such one, which cannot.
     #[inline(always)]
     pub fn try_turns(
@@ -148,7 +182,7 @@ impl Engine {
             && size > 0
             && self.calls.next_number().is_some()
         {
-            return self.run_turns(prepared, space, iteration, value, size, stop);
+            return self.run_visits(prepared, space, iteration, value, size, stop);
         }
         DoneTurn {
             visits: iteration.visits,
