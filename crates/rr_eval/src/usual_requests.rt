@@ -1,5 +1,4 @@
-//! Calls of built-in methods, and assignments to instance variables, whose values need no frame: they are asked for at once, in front of
-//! acts of any kind.
+//! Calls of built-in methods whose values need no frame: they are asked for at once, in front of acts of any kind.
 
 ghost use Rattle.std.specs.Prelude.{◌≡◌, ◌+◌, ◌*◌, ◌<◌, ◌≤◌, List, [], ◌∷◌, length, Option, None, IfSome, IfNone, IsTrue};
 ghost use Rattle.std.specs.List.{All};
@@ -292,104 +291,7 @@ impl Engine {
         }))
     }
 
-    /// Asks for an assignment to an instance variable of `self`.
-    #[tactic(auto, unfolding(crate::specs::Within::AreReached))]
-    #[inline(always)]
-    fn ask_assignment(
-        &mut self,
-        prepared: &Prepared,
-        space: &Space,
-        here: NodeId,
-        name: Sym,
-        value: NodeId,
-        stop: u64,
-    ) -> Option<Request>
-        requires control { self.old.control ≡ Control.Enter here }
-        requires script { rule (context_of prepared.now.program) (tree_at prepared.now.program.nodes.items here) ≡ with_value (tree_at prepared.now.program.nodes.items value) (set_field_rule (context_of prepared.now.program) name) }
-        requires some { stop < self.old.left }
-        requires nested { IsNested (view_of self.old) }
-        ensures goes { IfSome result (λ q. (h : Course) → remaining prepared.now.program (view_of self.old) space.now h ≡ asking_then prepared.now.program (view_of self.new) space.now (asked_of space.now q) h) }
-        ensures nested { IsNested (view_of self.new) }
-        ensures within { (clusters : Option Below) → AreReached (reach (length space.now.slots) clusters) (view_of self.old) → AreReached (reach (length space.now.slots) clusters) (view_of self.new) }
-        ensures asks { (clusters : Option Below) → AreReached (reach (length space.now.slots) clusters) (view_of self.old) → IfSome result (IsRequestReached (reach (length space.now.slots) clusters)) }
-        ensures left { stop ≤ self.new.left }
-        ensures falls { IfSome result (λ q. 9 * self.new.left + sized (Option.Some q) (view_of self.new) < power (view_of self.old)) }
-        ensures none { IfNone result (view_of self.new ≡ view_of self.old) }
-    {
-        let Some(found) = self.quick_before(prepared, space, value, stop) else {
-            return None;
-        };
-        self.left = self.left - found.steps - 1;
-        Some(self.ask_field(name, found.value))
-    }
-
-    /// Asks for an assignment to an instance variable of `self` of the value of an operator on two parts, where these are integers.
-    #[tactic(auto, unfolding(crate::specs::Within::AreReached))]
-    #[inline(always)]
-    fn ask_combined(
-        &mut self,
-        prepared: &Prepared,
-        space: &Space,
-        here: NodeId,
-        name: Sym,
-        op: BinaryOperator,
-        a: NodeId,
-        b: NodeId,
-        stop: u64,
-    ) -> Option<Request>
-        requires control { self.old.control ≡ Control.Enter here }
-        requires script { rule (context_of prepared.now.program) (tree_at prepared.now.program.nodes.items here) ≡ with_value (binary op (tree_at prepared.now.program.nodes.items a) (tree_at prepared.now.program.nodes.items b)) (set_field_rule (context_of prepared.now.program) name) }
-        requires some { stop < self.old.left }
-        requires nested { IsNested (view_of self.old) }
-        ensures goes { IfSome result (λ q. (h : Course) → remaining prepared.now.program (view_of self.old) space.now h ≡ asking_then prepared.now.program (view_of self.new) space.now (asked_of space.now q) h) }
-        ensures nested { IsNested (view_of self.new) }
-        ensures within { (clusters : Option Below) → AreReached (reach (length space.now.slots) clusters) (view_of self.old) → AreReached (reach (length space.now.slots) clusters) (view_of self.new) }
-        ensures asks { (clusters : Option Below) → AreReached (reach (length space.now.slots) clusters) (view_of self.old) → IfSome result (IsRequestReached (reach (length space.now.slots) clusters)) }
-        ensures left { stop ≤ self.new.left }
-        ensures falls { IfSome result (λ q. 9 * self.new.left + sized (Option.Some q) (view_of self.new) < power (view_of self.old)) }
-        ensures none { IfNone result (view_of self.new ≡ view_of self.old) }
-    {
-        let Some(found) = self.combined(prepared, space, op, a, b, stop) else {
-            return None;
-        };
-        self.left = self.left - found.steps - 1;
-        Some(self.ask_field(name, found.value))
-    }
-
-    /// Asks for an assignment with an operator to an instance variable of `self`, where that is one of integers.
-    #[inline(always)]
-    fn ask_update(
-        &mut self,
-        prepared: &Prepared,
-        space: &Space,
-        here: NodeId,
-        op: BinaryOperator,
-        target: NodeId,
-        value: NodeId,
-        stop: u64,
-    ) -> Option<Request>
-        requires control { self.old.control ≡ Control.Enter here }
-        requires tree { tree_at prepared.now.program.nodes.items here ≡ evaluated_tree prepared.now.program.nodes.items (Nodes.OperatorAssign op target value) }
-        requires some { stop < self.old.left }
-        requires nested { IsNested (view_of self.old) }
-        ensures goes { IfSome result (λ q. (h : Course) → remaining prepared.now.program (view_of self.old) space.now h ≡ asking_then prepared.now.program (view_of self.new) space.now (asked_of space.now q) h) }
-        ensures nested { IsNested (view_of self.new) }
-        ensures within { (clusters : Option Below) → AreReached (reach (length space.now.slots) clusters) (view_of self.old) → AreReached (reach (length space.now.slots) clusters) (view_of self.new) }
-        ensures asks { (clusters : Option Below) → AreReached (reach (length space.now.slots) clusters) (view_of self.old) → IfSome result (IsRequestReached (reach (length space.now.slots) clusters)) }
-        ensures left { stop ≤ self.new.left }
-        ensures falls { IfSome result (λ q. 9 * self.new.left + sized (Option.Some q) (view_of self.new) < power (view_of self.old)) }
-        ensures none { IfNone result (view_of self.new ≡ view_of self.old) }
-    {
-        match prepared.node(target) {
-            Some(&Node::Field(name)) => {
-                self.ask_combined(prepared, space, here, name, op, target, value, stop)
-            }
-            _ => None,
-        }
-    }
-
-    /// Asks for a call of a built-in method, or for an assignment to an instance variable, where a node is one whose parts need no frame,
-    /// and the steps do not stop before.
+    /// Asks for a call of a built-in method, where a node is one whose parts need no frame, and the steps do not stop before.
     #[inline(always)]
     pub fn ask_call(
         &mut self,
@@ -435,12 +337,6 @@ impl Engine {
                     value,
                 },
             ) => self.ask_element(prepared, space, here, receiver, index, value, stop),
-            Some(&Node::SetField(name, value)) => {
-                self.ask_assignment(prepared, space, here, name, value, stop)
-            }
-            Some(&Node::OperatorAssign(op, target, value)) => {
-                self.ask_update(prepared, space, here, op, target, value, stop)
-            }
             _ => None,
         }
     }

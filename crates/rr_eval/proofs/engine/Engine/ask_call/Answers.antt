@@ -35,9 +35,3 @@ ask_pair-requires-in-Some-Append-clause-script c =
     let call = c.in-Some-Append in
     takes_values p (rule own (tree_at ns c.args.here)) (tree_at ns call.a) (tree_at ns call.b) (finish own (Call Append))
     (ap (rule own) (call.ensures.tree ∙ ap (evaluated_tree ns) call.field-0-is))
-
-pub ask_assignment-requires-clause-script : goal.ask_assignment-requires-clause-script
-ask_assignment-requires-clause-script c =
-    let p = c.args.prepared.now.program in
-    let call = c.in-Some-SetField in
-    ap (rule (context_of p)) (call.ensures.tree ∙ ap (evaluated_tree p.nodes.items) call.field-0-is)

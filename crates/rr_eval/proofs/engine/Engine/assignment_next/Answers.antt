@@ -1,35 +1,12 @@
--- The value is evaluated at once.
-use Rattle.std.proofs.Common.{◌≡◌, ◌∙◌, ◌+◌, ◌-◌, ap, arith, length}
-use Rattle.rr_tree.specs.Tree.{tree_at}
-use Rattle.rr_eval.specs.Fields.{set_field_rule}
+-- The assignment by its rule.
+use Rattle.std.proofs.Common.{◌∙◌, ap}
 use Rattle.rr_eval.specs.Nodes.{evaluated_tree}
 use Rattle.rr_eval.specs.Rules.{rule}
-use Rattle.rr_eval.specs.Turns.{context_of, after_script}
-use Rattle.rr_eval.specs.Views.{view_of}
-use Rattle.rr_eval.specs.Within.{reach}
-use Rattle.rr_eval.proofs.Holding.{with_left}
-use Rattle.rr_eval.proofs.QuickRequests.{value_comes}
-use Rattle.rr_eval.proofs.QuickSends.{comes_first}
+use Rattle.rr_eval.specs.Turns.{context_of}
 use Rattle.rr_eval.proofs.engine.Engine.assignment_next.Goals as goal
 
-pub returns-clause-goes : goal.returns-clause-goes
-returns-clause-goes c = λ h.
+pub assign_part-requires-clause-script : goal.assign_part-requires-clause-script
+assign_part-requires-clause-script c =
     let p = c.args.prepared.now.program in
-    let ns = p.nodes.items in
-    let own = context_of p in
-    let m = view_of c.args.self.now in
-    let t = c.args.space.now in
-    let node = c.in-Some-SetField in
-    let found = c.in_ok-found.found in
-    let next = set_field_rule own node.name in
-    let spent : m.left - (found.steps + 1) ≡ m.left - found.steps - 1 = omega arith in
-    comes_first p m t c.in-Enter.here found.steps (next found.value) h c.in-Enter.is
-    (value_comes p m t (rule own (tree_at ns c.in-Enter.here)) (tree_at ns node.part) found.steps found.value next (ap (rule own) (node.ensures.tree ∙ ap (evaluated_tree ns) node.field-0-is)) c.in_ok-found.ensures.takes)
-    (omega (arith, c.in_ok-found.ensures.enough))
-    ∙ ap (after_script p m t (next found.value) h) spent
-    ∙ c.field_assignment.ensures.asks p t h (m.left - found.steps - 1)
-
-pub returns-clause-asks : goal.returns-clause-asks
-returns-clause-asks c clusters h =
-    let k = reach (length c.args.space.now.slots) clusters in
-    c.field_assignment.ensures.within k (with_left k (view_of c.args.self.now) _ h) (c.in_ok-found.ensures.within clusters h)
+    let call = c.in-Some-SetField in
+    ap (rule (context_of p)) (call.ensures.tree ∙ ap (evaluated_tree p.nodes.items) call.field-0-is)

@@ -9,7 +9,7 @@ use Rattle.rr_eval.specs.Within.{reach}
 use Rattle.rr_eval.proofs.Holding.{with_left}
 use Rattle.rr_eval.proofs.QuickRequests.{value_comes}
 use Rattle.rr_eval.proofs.QuickSends.{comes_first}
-use Rattle.rr_eval.proofs.engine.Engine.ask_combined.Goals as goal
+use Rattle.rr_eval.proofs.engine.Engine.assign_combined.Goals as goal
 
 pub returns-clause-goes : goal.returns-clause-goes
 returns-clause-goes c h =
@@ -25,9 +25,9 @@ returns-clause-goes c h =
     (value_comes p m t (rule own (tree_at ns c.args.here)) (binary c.args.op (tree_at ns c.args.a) (tree_at ns c.args.b)) found.steps found.value next c.requires.script c.in-Some.ensures.takes)
     (omega (arith, c.in-Some.ensures.enough))
     ∙ ap (after_script p m t (next found.value) h) spent
-    ∙ c.ask_field.ensures.asks p t h (m.left - found.steps - 1)
+    ∙ c.field_assignment.ensures.asks p t h (m.left - found.steps - 1)
 
 pub returns-clause-asks : goal.returns-clause-asks
 returns-clause-asks c clusters h =
     let k = reach (length c.args.space.now.slots) clusters in
-    c.ask_field.ensures.within k (with_left k (view_of c.args.self.now) _ h) (c.in-Some.ensures.within clusters h)
+    c.field_assignment.ensures.within k (with_left k (view_of c.args.self.now) _ h) (c.in-Some.ensures.within clusters h)
