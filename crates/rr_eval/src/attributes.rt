@@ -76,9 +76,8 @@ pub fn attribute_of(prepared: &Prepared, space: &Space, receiver: Ref, name: Sym
 }
 
 impl Engine {
-    /// What a part reads, and how many steps that takes. It is called, and not compiled in place, so that what looks for an operand stays
-    /// small enough to be.
-    #[inline(never)]
+    /// What a part reads, and how many steps that takes.
+    #[inline(always)]
     pub fn read_apart(&self, prepared: &Prepared, space: &Space, apart: &ApartPart) -> Option<Quick>
         ensures takes { (links : List Link) (tree : Tree) → IsApart prepared.now.program links tree apart.now → IfSome result (λ q. TakesNow prepared.now.program (view_of self.now) space.now tree q.steps q.value) }
         ensures plain { (links : List Link) (tree : Tree) → IsApart prepared.now.program links tree apart.now → IfSome result (λ _. is_splat tree ≡ false) }
